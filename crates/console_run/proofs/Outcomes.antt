@@ -1,0 +1,14 @@
+-- What holds of one outcome, led on to what follows from it.
+use Rattle.std.proofs.Common.{Result, Ok, Err, OnOk, OnErr}
+
+pub on_ok : {T E A B : Type 0} (r : Result T E) → (A → B) → OnOk r A → OnOk r B
+on_ok (Ok x) f h = f h
+on_ok (Err e) f h = tt
+
+pub on_err : {T E A B : Type 0} (r : Result T E) → (A → B) → OnErr r A → OnErr r B
+on_err (Ok x) f h = tt
+on_err (Err e) f h = f h
+
+pub err_is : {T E A : Type 0} (r : Result T E) → A → OnErr r A
+err_is (Ok x) h = tt
+err_is (Err e) h = h

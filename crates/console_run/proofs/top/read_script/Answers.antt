@@ -1,0 +1,46 @@
+use Rattle.std.proofs.Common.{rules, arith, ℕ, sym}
+use Rattle.std.proofs.lemmas.List.{take-append-le, length-take}
+use Rattle.console_run.proofs.Pumps.{pumped-start, when_ok, when_err, pumped-more, cut-ends, too-long}
+use Rattle.console_run.proofs.top.read_script.Goals as goal
+
+pub loop-taken-init : goal.loop-taken-init
+loop-taken-init g c = (
+  omega arith,
+  pumped-start _ _ _ _ _ c.requires.session c.requires.line,
+  search rules,
+  search rules,
+  search rules,
+  search rules,
+  search rules,
+  search rules,
+)
+
+pub returns-then-is_err-clause-ends : goal.returns-then-is_err-clause-ends
+returns-then-is_err-clause-ends g c =
+    let p = c.loop-taken.invariant.1 in
+    cut-ends _ _ _ _ _ _ _ _ _ p _ _ _ c.in-Ok.count _ _ c.in-Ok.ensures.bytes.0
+    (sym (take-append-le c.in-Ok.count c.read.new.buf _ c.in-Ok.ensures.bound.0)) (sym c.in-Ok.ensures.bound.1)
+    (omega (arith, c.in-Ok.ensures.bound.0, c.read.auto.buf, c.min-most.ensures, length-take {A = ℕ}))
+    (when_err c.feed.result c.if-is_err.ensures.value (c.feed.ensures.err _ _ p.taken p.progress))
+
+pub loop-taken-preserved : goal.loop-taken-preserved
+loop-taken-preserved g c =
+    let p = c.loop-taken.invariant.1 in (
+      omega (arith, c.in-Ok.ensures.bound.0, c.read.auto.buf, c.min-most.ensures, length-take {A = ℕ}),
+      pumped-more _ _ _ _ _ _ _ _ _ p _ _ _ _ _ c.in-Ok.count _ _ c.in-Ok.ensures.bytes.0
+          (sym (take-append-le c.in-Ok.count c.read.new.buf _ c.in-Ok.ensures.bound.0)) (sym c.in-Ok.ensures.bound.1)
+          (when_ok c.feed.result (sym c.if-is_err.ensures.value) (c.feed.ensures.ok _ _ p.taken p.progress)),
+      search rules,
+      search rules,
+      search rules,
+      search rules,
+      search rules,
+      search rules,
+    )
+
+pub returns-in-Ok-read-clause-ends : goal.returns-in-Ok-read-clause-ends
+returns-in-Ok-read-clause-ends g c =
+    let p = c.loop-taken.invariant.1 in
+    too-long _ _ _ _ _ _ _ _ _ p _ _ c.in-Ok-read.ensures.bytes.0
+    (omega (arith, c.loop-taken.invariant.0))
+    (omega (arith, c.in-Ok-read.ensures.bound.1, c.in-Ok-read.field-0-test.1))

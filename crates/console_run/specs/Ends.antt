@@ -1,0 +1,77 @@
+-- How a run ends: what each status says of the script, the replies and the files.
+use Rattle.std.specs.Prelude.{◌≡◌, ℕ, ◌<◌, ◌≤◌, List, [], ◌∷◌, ◌++◌, length, ⊤}
+use Rattle.std.specs.Io.KnownBytes.{Consumes, IsAtEnd}
+use Rattle.console_state.specs.Step.{Files}
+use Rattle.console_run.specs.declared.top.Status.{Status}
+use Rattle.console_run.specs.declared.top.Status.TheVariants.{Done, Words, ReadFault, WriteFault, NoMemory, TooLong}
+use Rattle.console_run.specs.Lines.{lines_of}
+use Rattle.console_run.specs.Answers.{Known, Answered, BrokeOff}
+
+-- the outside before a call and after it: the script's bytes that are left, the files, and the bytes written
+pub record Outside : Type 0 where
+  pub left : Known
+  pub files : Files
+  pub held : Known
+
+abbrev pub outside : Known → Files → Known → Outside
+outside left files held = record { left = left; files = files; held = held }
+
+-- the script was read to its end, and every line is answered
+pub record EndsDone (old new : Outside) : Type 0 where
+  pub taken : List ℕ
+  pub consumed : Consumes old.left new.left taken
+  pub within : length taken ≤ 1073741824
+  pub at_end : IsAtEnd new.left
+  pub answered : Answered old.files old.held (lines_of taken) new.files new.held
+
+-- the lines that an LF ended are answered
+pub record EndsReadFault (old new : Outside) : Type 0 where
+  pub taken : List ℕ
+  pub consumed : Consumes old.left new.left taken
+  pub within : length taken ≤ 1073741824
+  pub lines : List (List ℕ)
+  pub unfinished : List ℕ
+  pub split : lines_of taken ≡ lines ++ unfinished ∷ []
+  pub answered : Answered old.files old.held lines new.files new.held
+
+-- some first lines are answered, and the reply to the next one is cut off
+pub record EndsWriteFault (old new : Outside) : Type 0 where
+  pub taken : List ℕ
+  pub consumed : Consumes old.left new.left taken
+  pub within : length taken ≤ 1073741824
+  pub lines : List (List ℕ)
+  pub line : List ℕ
+  pub later : List (List ℕ)
+  pub split : lines_of taken ≡ lines ++ line ∷ later
+  pub broke : BrokeOff old.files old.held lines line new.files new.held
+
+-- as many bytes as a script may have were taken, and one read more gave some; the lines that an LF ended among the
+-- first are answered
+pub record EndsTooLong (old new : Outside) : Type 0 where
+  pub taken : List ℕ
+  pub more : List ℕ
+  pub consumed : Consumes old.left new.left (taken ++ more)
+  pub full : length taken ≡ 1073741824
+  pub beyond : 0 < length more
+  pub lines : List (List ℕ)
+  pub unfinished : List ℕ
+  pub split : lines_of taken ≡ lines ++ unfinished ∷ []
+  pub answered : Answered old.files old.held lines new.files new.held
+
+-- what each status says
+abbrev pub Ends : Status → Outside → Outside → Type 0
+Ends Done old new = EndsDone old new
+Ends Words old new = new ≡ old
+Ends ReadFault old new = EndsReadFault old new
+Ends WriteFault old new = EndsWriteFault old new
+Ends NoMemory old new = new ≡ old
+Ends TooLong old new = EndsTooLong old new
+
+-- the statuses of a script that wasn't read to its end
+abbrev pub IsEarly : Status → Type 0
+IsEarly Done = ⊥
+IsEarly Words = ⊥
+IsEarly ReadFault = ⊤
+IsEarly WriteFault = ⊤
+IsEarly NoMemory = ⊥
+IsEarly TooLong = ⊤

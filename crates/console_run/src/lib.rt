@@ -1,0 +1,10 @@
+//! The console: a script of commands read from a source, and one reply a command written to a sink.
+#![tactic(auto)]
+
+mod console;
+mod top;
+
+pub use top::{SCRIPT_LIMIT, Status, run};
+
+#[cfg(test)]
+mod tests;

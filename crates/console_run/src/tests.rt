@@ -1,0 +1,227 @@
+ghost use Rattle.std.specs.Prelude.{◌<◌, None};
+
+use crate::{Status, run};
+use leda_edge::{Failed, FileStore, MemSink, MemSource, Source, SureSink, SureSource};
+use std::test::Fail;
+
+/// Runs a script whose reads give at most `piece` bytes.
+fn run_of(rt: &HostRuntime, script: &str, piece: usize) -> Result<(Status, MemSink), Fail>
+    requires { 0 < piece }
+{
+    let bytes = Vec::from_slice(rt.alloc(), script.as_bytes())?;
+    let mut source = MemSource::new(bytes, piece, Vec::new(rt.alloc()));
+    let mut sink = MemSink::new(rt.alloc(), 4096, Vec::new(rt.alloc()))?;
+    let mut files = FileStore::new(rt);
+    let ended = run(rt.alloc(), &["leda"], &mut source, &mut files, &mut sink);
+    Ok((ended, sink))
+}
+
+#[test]
+fn answers_each_command(rt: HostRuntime) -> Result<(), Fail> {
+    let rows = [
+        ("", ""),
+        (
+            "node\nnode\nedge n1 n2\nedge n1 n3",
+            "= n1\n= n2\n= e1\n! unknown n3\n",
+        ),
+        (
+            "node\nedge n1 n1\nedge n2 n3\nedge n1 n3\nedge n1 n1\n",
+            "= n1\n= e1\n! unknown n2\n! unknown n3\n= e2\n",
+        ),
+        ("\n # a comment\n\t\r\nnode\r\n", "= n1\n"),
+        (
+            "node n1\nnodes\nedge\nedge n0 n1\nedge n1 \n",
+            "! syntax 6\n! syntax 1\n! syntax 5\n! syntax 6\n! syntax 8\n",
+        ),
+        ("node\u{0}\n\u{e9}\nnode", "! syntax 1\n! syntax 1\n= n1\n"),
+    ];
+    for (script, replies) in rows {
+        for piece in [1, 5, 100_000] {
+            let (ended, sink) = run_of(&rt, script, piece)?;
+            assert_eq!(rt; ended, Status::Done, "after {script:?}");
+            assert_eq!(rt; sink.bytes(), replies.as_bytes(), "after {script:?}");
+        }
+    }
+    Ok(())
+}
+
+#[test]
+fn refuses_a_second_word(rt: HostRuntime) -> Result<(), Fail> {
+    let mut source = SureSource::new(Vec::from_slice(rt.alloc(), b"node\n")?);
+    let mut sink = MemSink::new(rt.alloc(), 64, Vec::new(rt.alloc()))?;
+    let mut files = FileStore::new(&rt);
+    let ended = run(
+        rt.alloc(),
+        &["leda", "--fast"],
+        &mut source,
+        &mut files,
+        &mut sink,
+    );
+    assert_eq!(rt; ended, Status::Words);
+    assert_eq!(rt; sink.bytes(), b"".as_slice());
+    Ok(())
+}
+
+#[test]
+fn a_sure_outside_has_no_fault(rt: HostRuntime) -> Result<(), Fail> {
+    let mut source = SureSource::new(Vec::from_slice(rt.alloc(), b"node\nedge n1 n1")?);
+    let mut sink = SureSink::new();
+    let mut files = FileStore::new(&rt);
+    let ended = run(rt.alloc(), &["leda"], &mut source, &mut files, &mut sink);
+    assert_eq!(rt; ended, Status::Done);
+    Ok(())
+}
+
+/// Ends a script of five commands at the first call that is to fail, and gives the status and the bytes written.
+fn faulty_run(rt: &HostRuntime, read: u64, write: u64) -> Result<(Status, MemSink), Fail> {
+    let script = Vec::from_slice(rt.alloc(), b"node\nnode\nedge n1 n2\nedge n1 n3\nnode")?;
+    let mut source = MemSource::new(script, 5, Vec::from_slice(rt.alloc(), &[read])?);
+    let mut sink = MemSink::new(rt.alloc(), 64, Vec::from_slice(rt.alloc(), &[write])?)?;
+    let mut files = FileStore::new(rt);
+    let ended = run(rt.alloc(), &["leda"], &mut source, &mut files, &mut sink);
+    Ok((ended, sink))
+}
+
+#[test]
+fn stops_at_each_failing_read(rt: HostRuntime) -> Result<(), Fail> {
+    // What is answered by the lines that ended within so many pieces of five bytes.
+    let rows = [
+        (1, ""),
+        (2, "= n1\n"),
+        (3, "= n1\n= n2\n"),
+        (4, "= n1\n= n2\n"),
+        (5, "= n1\n= n2\n"),
+        (6, "= n1\n= n2\n= e1\n"),
+        (7, "= n1\n= n2\n= e1\n"),
+        (8, "= n1\n= n2\n= e1\n! unknown n3\n"),
+        (9, "= n1\n= n2\n= e1\n! unknown n3\n"),
+    ];
+    for (call, replies) in rows {
+        let (status, sink) = faulty_run(&rt, call, 0)?;
+        assert_eq!(rt; status, Status::ReadFault, "at call {call}");
+        assert_eq!(rt; sink.bytes(), replies.as_bytes(), "at call {call}");
+    }
+    let (status, _) = faulty_run(&rt, 10, 0)?;
+    assert_eq!(rt; status, Status::Done);
+    Ok(())
+}
+
+#[test]
+fn stops_at_each_failing_write(rt: HostRuntime) -> Result<(), Fail> {
+    let rows = [
+        (1, ""),
+        (2, "= n1\n"),
+        (3, "= n1\n= n2\n"),
+        (4, "= n1\n= n2\n= e1\n"),
+        (5, "= n1\n= n2\n= e1\n! unknown n3\n"),
+    ];
+    for (call, replies) in rows {
+        let (status, sink) = faulty_run(&rt, 0, call)?;
+        assert_eq!(rt; status, Status::WriteFault, "at call {call}");
+        assert_eq!(rt; sink.bytes(), replies.as_bytes(), "at call {call}");
+    }
+    Ok(())
+}
+
+/// A source that gives the same piece over and over, and then a last one.
+#[derive(Drop)]
+struct Repeated<'a> {
+    piece: &'a [u8],
+    times: u64,
+    last: &'a [u8],
+}
+
+impl<'a> Source for Repeated<'a> {
+    ghost left = { λ _. None };
+
+    ghost faults = { λ _. 0 };
+
+    fn read(&mut self, buf: &mut [u8]) -> Result<usize, Failed> {
+        let piece = if self.times > 0 {
+            self.piece
+        } else {
+            self.last
+        };
+        if self.times > 0 {
+            self.times -= 1;
+        } else {
+            self.last = b"";
+        }
+        let count = piece.len().min(buf.len());
+        buf[..count].copy_from_slice(&piece[..count]);
+        Ok(count)
+    }
+}
+
+#[test]
+fn a_full_graph_takes_no_more(rt: HostRuntime) -> Result<(), Fail> {
+    let mut sink = MemSink::new(rt.alloc(), 8_000_000, Vec::new(rt.alloc()))?;
+    let mut files = FileStore::new(&rt);
+    let mut nodes = Repeated {
+        piece: b"node\n",
+        times: 100_000,
+        last: b"node\nedge n1 n100001\nedge n100000 n1",
+    };
+    let ended = run(rt.alloc(), &["leda"], &mut nodes, &mut files, &mut sink);
+    assert_eq!(rt; ended, Status::Done);
+    assert!(rt;
+        sink.bytes()
+            .ends_with(b"= n100000\n! full nodes\n! unknown n100001\n= e1\n")
+    );
+
+    let mut sink = MemSink::new(rt.alloc(), 8_000_000, Vec::new(rt.alloc()))?;
+    let mut edges = Repeated {
+        piece: b"node\nedge n1 n1\nedge n1 n1\nedge n1 n1\nedge n1 n1\n",
+        times: 100_000,
+        last: b"edge n1 n1\nedge n1 n100001",
+    };
+    let ended = run(rt.alloc(), &["leda"], &mut edges, &mut files, &mut sink);
+    assert_eq!(rt; ended, Status::Done);
+    assert!(rt;
+        sink.bytes()
+            .ends_with(b"= e400000\n! full edges\n! unknown n100001\n")
+    );
+    Ok(())
+}
+
+#[test]
+fn a_script_is_at_most_so_long(rt: HostRuntime) -> Result<(), Fail> {
+    let mut line = vec![in rt.alloc(); b'x'; 65_536]?;
+    assert_eq!(rt; line.len(), 65_536);
+    line[0] = b'#';
+    line[65_535] = b'\n';
+    for (last, status) in [
+        (b"".as_slice(), Status::Done),
+        (b"x".as_slice(), Status::TooLong),
+    ] {
+        let mut sink = MemSink::new(rt.alloc(), 64, Vec::new(rt.alloc()))?;
+        let mut files = FileStore::new(&rt);
+        let mut source = Repeated {
+            piece: line.as_slice(),
+            times: 16_384,
+            last,
+        };
+        let ended = run(rt.alloc(), &["leda"], &mut source, &mut files, &mut sink);
+        assert_eq!(rt; ended, status);
+        assert_eq!(rt; sink.bytes(), b"".as_slice());
+    }
+    Ok(())
+}
+
+#[test]
+fn a_line_is_at_most_so_long(rt: HostRuntime) -> Result<(), Fail> {
+    let mut script = vec![in rt.alloc(); b' '; 65_532]?;
+    // 65,536 bytes that are a command, then 65,537 bytes, whatever they hold.
+    script.extend_from_slice(b"node\nnode")?;
+    for _ in 0..65_533 {
+        script.push(b' ')?;
+    }
+    script.extend_from_slice(b"\nnode")?;
+    let mut source = SureSource::new(script);
+    let mut sink = MemSink::new(rt.alloc(), 64, Vec::new(rt.alloc()))?;
+    let mut files = FileStore::new(&rt);
+    let ended = run(rt.alloc(), &["leda"], &mut source, &mut files, &mut sink);
+    assert_eq!(rt; ended, Status::Done);
+    assert_eq!(rt; sink.bytes(), b"= n1\n! line\n= n2\n".as_slice());
+    Ok(())
+}

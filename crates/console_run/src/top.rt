@@ -1,0 +1,149 @@
+ghost use Rattle.std.specs.Prelude.{◌≡◌, ◌≢◌, ◌<◌, ◌≤◌, ◌↔◌, [], length, OnOk, IfErr};
+ghost use Rattle.leda_edge.specs.Causes.{Rose};
+ghost use Rattle.leda_edge.specs.Parts.{StaysTold};
+ghost use Rattle.console_state.specs.State.{empty};
+ghost use Rattle.console_run.specs.Progress.{ReadWhole};
+ghost use Rattle.console_run.specs.Ends.{Ends, IsEarly, outside};
+
+use crate::console::Console;
+use leda_edge::{Failed, Sink, Source, Store};
+use std::alloc::Global;
+
+/// How many bytes a script may have.
+pub const SCRIPT_LIMIT: usize = 1_073_741_824;
+
+/// How many bytes of the script are read at once.
+const READ_ROOM: usize = 65_536;
+
+/// How a run ended. The number of each is the program's exit status.
+#[derive(Clone, Copy, Debug, PartialEq, Eq)]
+pub enum Status {
+    /// The script was read to its end, and every reply was written.
+    Done = 0,
+    /// The words of the command line are refused. Nothing was read or written.
+    Words = 2,
+    /// A read failed. The lines that were read whole before it are answered.
+    ReadFault = 3,
+    /// A write failed. What was written is a front of the replies.
+    WriteFault = 4,
+    /// There was no memory for the buffers. Nothing was read or written.
+    NoMemory = 5,
+    /// The script has more than 1,073,741,824 bytes. The lines that ended within so many are answered.
+    TooLong = 6,
+}
+
+/// Runs a script: one reply for each command is written, in order, before the next line is run.
+///
+/// `words` are the words of the command line, of which the first is the program's name; there is to be no other.
+pub fn run<S: Source, F: Store, K: Sink>(
+    alloc: Global,
+    words: &[&str],
+    script: &mut S,
+    files: &mut F,
+    out: &mut K,
+) -> Status
+    requires { 0 < length words.now }
+    // What was read, what was written and what the files hold.
+    ensures ends { Ends result (outside (S.left script.old) (F.files files.old) (K.held out.old))
+        (outside (S.left script.new) (F.files files.new) (K.held out.new)) }
+    ensures words { (result ≡ Status.Words) ↔ (1 < length words.now) }
+    ensures read { result ≡ Status.ReadFault → Rose (S.faults script.old) (S.faults script.new) }
+    ensures write { result ≡ Status.WriteFault → Rose (K.faults out.old) (K.faults out.new) }
+    ensures reads { S.faults script.old ≤ S.faults script.new }
+    ensures writes { K.faults out.old ≤ K.faults out.new }
+    ensures left { StaysTold (S.left script.old) (S.left script.new) }
+    ensures held { StaysTold (K.held out.old) (K.held out.new) }
+    ensures store { files.new ≡ files.old }
+{
+    if words.len() > 1 {
+        return Status::Words;
+    }
+    let Ok(mut console) = Console::new(alloc) else {
+        return Status::NoMemory;
+    };
+    let Ok(mut room) = vec![in alloc; 0; READ_ROOM] else {
+        return Status::NoMemory;
+    };
+    pump(&mut console, script, files, out, &mut room)
+}
+
+/// Answers the lines of the script, and says how that ended.
+fn pump<S: Source, F: Store, K: Sink>(
+    console: &mut Console,
+    script: &mut S,
+    files: &mut F,
+    out: &mut K,
+    room: &mut [u8],
+) -> Status
+    requires room { 0 < length room.old }
+    requires session { console.old.session ≡ empty }
+    requires line { console.old.line.items ≡ [] }
+    ensures ends { Ends result (outside (S.left script.old) (F.files files.old) (K.held out.old))
+        (outside (S.left script.new) (F.files files.new) (K.held out.new)) }
+    ensures words { result ≢ Status.Words }
+    ensures memory { result ≢ Status.NoMemory }
+    ensures read { result ≡ Status.ReadFault → Rose (S.faults script.old) (S.faults script.new) }
+    ensures write { result ≡ Status.WriteFault → Rose (K.faults out.old) (K.faults out.new) }
+    ensures reads { S.faults script.old ≤ S.faults script.new }
+    ensures writes { K.faults out.old ≤ K.faults out.new }
+    ensures left { StaysTold (S.left script.old) (S.left script.new) }
+    ensures held { StaysTold (K.held out.old) (K.held out.new) }
+    ensures store { files.new ≡ files.old }
+{
+    if let Err(status) = read_script(console, script, files, out, room) {
+        return status;
+    }
+    match console.finish(files, out) {
+        Ok(()) => Status::Done,
+        Err(Failed) => Status::WriteFault,
+    }
+}
+
+/// Reads the script to its end, and answers the lines that an LF ends.
+///
+/// # Errors
+/// The status of a run that ends before the script does.
+fn read_script<S: Source, F: Store, K: Sink>(
+    console: &mut Console,
+    script: &mut S,
+    files: &mut F,
+    out: &mut K,
+    room: &mut [u8],
+) -> Result<(), Status>
+    requires room { 0 < length room.old }
+    requires session { console.old.session ≡ empty }
+    requires line { console.old.line.items ≡ [] }
+    ensures whole { OnOk result (ReadWhole (S.left script.old) (F.files files.old) (K.held out.old)
+        (S.left script.new) (F.files files.new) (K.held out.new) console.new.session console.new.line.items) }
+    ensures ends { IfErr result (λ status.
+        Ends status (outside (S.left script.old) (F.files files.old) (K.held out.old))
+        (outside (S.left script.new) (F.files files.new) (K.held out.new))) }
+    ensures early { IfErr result IsEarly }
+    ensures read { IfErr result (λ status. status ≡ Status.ReadFault → Rose (S.faults script.old) (S.faults script.new)) }
+    ensures write { IfErr result (λ status. status ≡ Status.WriteFault → Rose (K.faults out.old) (K.faults out.new)) }
+    ensures reads { S.faults script.old ≤ S.faults script.new }
+    ensures writes { K.faults out.old ≤ K.faults out.new }
+    ensures left { StaysTold (S.left script.old) (S.left script.new) }
+    ensures held { StaysTold (K.held out.old) (K.held out.new) }
+    ensures store { files.new ≡ files.old }
+{
+    let mut taken = 0;
+    while taken < SCRIPT_LIMIT {
+        let most = room.len().min(SCRIPT_LIMIT - taken);
+        let Ok(count) = script.read(&mut room[..most]) else {
+            return Err(Status::ReadFault);
+        };
+        if count == 0 {
+            return Ok(());
+        }
+        if console.feed(files, out, &room[..count]).is_err() {
+            return Err(Status::WriteFault);
+        }
+        taken += count;
+    }
+    match script.read(room) {
+        Ok(0) => Ok(()),
+        Ok(_) => Err(Status::TooLong),
+        Err(Failed) => Err(Status::ReadFault),
+    }
+}

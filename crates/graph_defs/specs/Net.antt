@@ -1,0 +1,20 @@
+-- Valid nets, and the ends of their arcs.
+use Rattle.std.specs.Prelude.{ℕ, ◌<◌, ◌≤◌, length, All, slice_index_or}
+use Rattle.graph_defs.specs.declared.net.Net.{Net}
+
+-- the two ends of an arc, by numbers of nodes
+abbrev pub Ends : Type 0
+Ends = ℕ × ℕ
+
+-- every end is a node, and there are few enough of both
+pub record IsValid (net : Net) : Type 0 where
+  pub ends : All (λ (arc : Ends). (arc.0 < net.n) × (arc.1 < net.n)) net.arcs
+  pub nodes : net.n ≤ 100000
+  pub arcs : length net.arcs ≤ 400000
+
+-- where arc k begins and where it ends
+abbrev pub source : Net → ℕ → ℕ
+source net k = (slice_index_or net.arcs k (0, 0)).0
+
+abbrev pub target : Net → ℕ → ℕ
+target net k = (slice_index_or net.arcs k (0, 0)).1

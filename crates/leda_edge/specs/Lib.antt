@@ -1,0 +1,5 @@
+pub mod Causes
+pub mod Files
+pub mod Memory
+pub mod Parts
+pub mod Streams

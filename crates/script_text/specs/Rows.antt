@@ -1,0 +1,43 @@
+-- The table of commands: their words, and the forms of the arguments that each takes.
+use Rattle.std.specs.Prelude.{◌≡◌, length, ℕ, ◌<◌, List, [], ◌∷◌, Option, Some, None, option_map, bytes_eq, codes, if◌then◌else◌}
+use Rattle.std.specs.List.{AllZip}
+use Rattle.script_text.specs.declared.argument.Arg.{Arg}
+use Rattle.script_text.specs.declared.argument.Arg.TheVariants as args
+use Rattle.script_text.specs.declared.argument.Form.{Form}
+use Rattle.script_text.specs.declared.argument.Form.TheVariants as forms
+use Rattle.script_text.specs.declared.word.EditWord.{EditWord}
+use Rattle.script_text.specs.declared.word.EditWord.TheVariants as edits
+use Rattle.script_text.specs.declared.word.Word.{Word}
+use Rattle.script_text.specs.declared.word.Word.TheVariants.{Edit}
+use Rattle.script_text.specs.Said.{Said}
+
+-- the word of an edit that these bytes are
+abbrev pub edit_word : List ℕ → Option EditWord
+edit_word bytes =
+    if bytes_eq bytes (codes "node") then Some edits.Node else if bytes_eq bytes (codes "edge") then Some edits.Edge else None
+
+-- the command word that these bytes are; None for an unknown word
+abbrev pub word_of : List ℕ → Option Word
+word_of bytes = option_map Edit (edit_word bytes)
+
+-- the forms of the arguments of an edit, in order
+abbrev pub edit_forms : EditWord → List Form
+edit_forms edits.Node = []
+edit_forms edits.Edge = forms.Node ∷ forms.Node ∷ []
+
+-- the forms of the arguments that a word takes, in order
+abbrev pub forms_of : Word → List Form
+forms_of (Edit edit) = edit_forms edit
+
+-- the argument is of the form
+abbrev pub IsOfForm : Arg → Form → Type 0
+IsOfForm (args.Node number) forms.Node = 0 < number
+
+-- there is one argument for each form, of that form
+pub record FitsForms (args : List Arg) (forms : List Form) : Type 0 where
+  pub count : length args ≡ length forms
+  pub each : AllZip IsOfForm args forms
+
+-- the command has just the arguments that its word takes
+abbrev pub IsWhole : Said → Type 0
+IsWhole said = FitsForms said.args (forms_of said.word)
