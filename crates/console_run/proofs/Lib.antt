@@ -5,3 +5,4 @@ pub mod Pieces
 pub mod Advances
 pub mod Outcomes
 pub mod Pumps
+pub mod Lacking

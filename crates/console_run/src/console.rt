@@ -1,7 +1,10 @@
-ghost use Rattle.std.specs.Prelude.{◌≡◌, ℕ, ◌+◌, ◌≤◌, ◌<◌, List, [], ◌++◌, length, drop, vec_len, vec_capacity, IfSome, IfNone, IfOk, OnOk, OnErr};
+ghost use Rattle.std.specs.Prelude.{◌⊎◌, Some, ◌≡◌, ℕ, ◌+◌, ◌≤◌, ◌<◌, List, [], ◌++◌, length, drop, vec_len, vec_capacity, IfSome, IfNone, IfOk, OnOk, OnErr};
 ghost use Rattle.leda_edge.specs.Causes.{HasCause};
 ghost use Rattle.leda_edge.specs.Parts.{StaysTold};
 ghost use Rattle.script_text.specs.Line.{kept_of};
+ghost use Rattle.reply_text.specs.Text.{reply_text, IsNamed, IsShort};
+ghost use Rattle.reply_text.specs.declared.reply.Reply.TheVariants.{Refused};
+ghost use Rattle.reply_text.specs.declared.reply.Refusal.TheVariants.{Memory};
 ghost use Rattle.console_state.specs.State.{empty};
 ghost use Rattle.console_state.specs.Step.{Files};
 ghost use Rattle.console_run.specs.Session.{LineStep, refusal_of};
@@ -54,6 +57,10 @@ impl Console {
     fn reply_to_line<F: Store>(&mut self, files: &mut F) -> Option<Reply>
         ensures step { LineStep self.old.session (F.files files.old) self.old.line.items result
             self.new.session (F.files files.new) }
+        ensures named { IfSome result IsNamed }
+        // A reply of any length may be want of memory in its place, since nothing has changed.
+        ensures quiet { IfSome result (λ reply. IsShort reply ⊎ LineStep self.old.session (F.files files.old) self.old.line.items
+            (Some (Refused Memory)) self.new.session (F.files files.new)) }
         ensures store { files.new ≡ files.old }
     {
         match parse_line(self.alloc, self.line.as_slice()) {
@@ -72,8 +79,7 @@ impl Console {
         let answer = self.reply_to_line(files);
         self.reply.clear();
         if let Some(reply) = answer {
-            // The buffer has room for every reply.
-            let _ = put_reply(&mut self.reply, &reply);
+            put_text(&mut self.reply, &reply);
         }
     }
 
@@ -152,6 +158,21 @@ impl Console {
         ensures store { files.new ≡ files.old }
     {
         self.end_line(files, out)
+    }
+}
+
+/// Puts the text of a reply into an empty buffer, or that of want of memory where a long reply finds none.
+fn put_text(to: &mut Vec<u8>, reply: &Reply)
+    requires empty { to.old.items ≡ [] }
+    requires room { 256 ≤ vec_capacity to.old }
+    requires named { IsNamed reply.now }
+    ensures text { (to.new.items ≡ reply_text reply.now)
+        ⊎ ((IsShort reply.now → ⊥) × (to.new.items ≡ reply_text (Refused Memory))) }
+    ensures capacity { vec_capacity to.old ≤ vec_capacity to.new }
+{
+    if put_reply(to, reply).is_err() {
+        // The buffer has room for this one.
+        let _ = put_reply(to, &Reply::Refused(Refusal::Memory));
     }
 }
 

@@ -34,6 +34,14 @@ fn answers_each_command(rt: HostRuntime) -> Result<(), Fail> {
             "! syntax 6\n! syntax 1\n! syntax 5\n! syntax 6\n! syntax 8\n",
         ),
         ("node\u{0}\n\u{e9}\nnode", "! syntax 1\n! syntax 1\n= n1\n"),
+        (
+            "node\nnode\nnode\nedge n1 n2\nreach n1 n2\nreach n1 n3\nreach n1 n1\n",
+            "= n1\n= n2\n= n3\n= e1\n= walk e1\n= closed n1 n2\n= walk\n",
+        ),
+        (
+            "node\nreach n1 n2\nreach n3 n2\nreach n1 e1\nreach n1\nreach n1 n1 n1\n",
+            "= n1\n! unknown n2\n! unknown n3\n! syntax 10\n! syntax 9\n! syntax 13\n",
+        ),
     ];
     for (script, replies) in rows {
         for piece in [1, 5, 100_000] {

@@ -1,5 +1,5 @@
 -- What each edit does, and what it is answered: the next state and the reply.
-use Rattle.std.specs.Prelude.{ℕ, Bool, ◌+◌, ◌-◌, ◌==◌, ◌&&◌, not, nat_lt, nat_le, if◌then◌else◌, List, [], ◌∷◌, ◌++◌, length}
+use Rattle.std.specs.Prelude.{ℕ, Bool, Option, Some, None, ◌+◌, ◌-◌, ◌==◌, ◌&&◌, not, nat_lt, nat_le, if◌then◌else◌, List, [], ◌∷◌, ◌++◌, length}
 use Rattle.leda_base.specs.declared.ItemName.TheVariants as items
 use Rattle.script_text.specs.declared.argument.Arg.{Arg}
 use Rattle.script_text.specs.declared.argument.Arg.TheVariants as args
@@ -38,13 +38,23 @@ node s =
     if s.graph.n == 100000 then refused s FullNodes
     else (with_node s, Line (Name (items.Node (s.graph.n + 1))))
 
--- `edge v w`: the leftmost node that was never made is named
+-- the leftmost of two nodes that was never made
+abbrev pub first_unknown : State → ℕ → ℕ → Option Refusal
+first_unknown s v w =
+    if not (is_node s v) then Some (Unknown (items.Node v))
+    else if not (is_node s w) then Some (Unknown (items.Node w))
+    else None
+
+-- the refusal, if there is one, or else the outcome
+abbrev pub unless : Option Refusal → State → Outcome → Outcome
+unless (Some refusal) s outcome = refused s refusal
+unless None s outcome = outcome
+
+-- `edge v w`
 abbrev pub edge : State → ℕ → ℕ → Outcome
-edge s v w =
-    if not (is_node s v) then refused s (Unknown (items.Node v))
-    else if not (is_node s w) then refused s (Unknown (items.Node w))
-    else if length s.graph.arcs == 400000 then refused s FullEdges
-    else (with_edge s v w, Line (Name (items.Edge (length s.graph.arcs + 1))))
+edge s v w = unless (first_unknown s v w) s (
+    if length s.graph.arcs == 400000 then refused s FullEdges
+    else (with_edge s v w, Line (Name (items.Edge (length s.graph.arcs + 1)))))
 
 -- an edit by its word, where its arguments are those that the word takes; other arguments never come
 abbrev pub edited : EditWord → List Arg → State → Outcome

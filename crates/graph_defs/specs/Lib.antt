@@ -1,2 +1,4 @@
+pub mod Adjacency
+pub mod Layout
 pub mod Net
 pub mod Walk

@@ -1,3 +1,7 @@
+// A directed graph by numbers.
+ghost use Rattle.std.specs.Prelude.{◌↔◌, ◌<◌, All, IsTrue};
+ghost use Rattle.graph_defs.specs.Net.{Ends, IsValid};
+
 use leda_base::Row;
 
 /// How many nodes a net may have.
@@ -14,4 +18,20 @@ pub const ARC_LIMIT: u32 = 400_000;
 pub struct Net {
     pub n: u32,
     pub arcs: Row<(u32, u32)>,
+}
+
+impl Net {
+    /// Whether every end is below `n` and there are few enough nodes and arcs.
+    pub fn is_valid(&self) -> bool
+        ensures { IsTrue result ↔ IsValid self.now }
+    {
+        let arcs = self.arcs.as_slice();
+        self.n <= NODE_LIMIT && arcs.len() <= ARC_LIMIT as usize && have_ends_below(self.n, arcs)
+    }
+}
+
+fn have_ends_below(n: u32, arcs: &[(u32, u32)]) -> bool
+    ensures { IsTrue result ↔ All (λ (arc : Ends). (arc.0 < n) × (arc.1 < n)) arcs.now }
+{
+    arcs.iter().all(|(from, to)| *from < n && *to < n)
 }

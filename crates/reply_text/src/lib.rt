@@ -4,5 +4,5 @@
 mod reply;
 mod text;
 
-pub use reply::{Refusal, Reply, ReplyLine};
+pub use reply::{Answer, Named, Refusal, Reply, ReplyLine};
 pub use text::put_reply;

@@ -1,12 +1,31 @@
-use leda_base::ItemName;
+use graph_defs::Reach;
+use leda_base::{ItemName, Row};
 
 /// What a command is answered with.
-#[derive(Clone, Copy, Debug, PartialEq, Eq)]
+#[derive(Drop)]
 pub enum Reply {
     /// The command was done.
     Line(ReplyLine),
+    /// The query is answered.
+    Query(Named),
     /// The command was refused, and nothing has changed.
     Refused(Refusal),
+}
+
+/// The answer to a query, and the names of what it numbers.
+#[derive(Drop)]
+pub struct Named {
+    /// The number of the node that the net numbers k, at place k.
+    pub nodes: Row<u32>,
+    /// The number of the edge that the net numbers k, at place k.
+    pub edges: Row<u32>,
+    pub answer: Answer,
+}
+
+/// The answer to a query, which numbers nodes and arcs as the net does.
+#[derive(Drop)]
+pub enum Answer {
+    Reach(Reach),
 }
 
 /// What the line of a command that was done tells.

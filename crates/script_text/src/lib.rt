@@ -8,7 +8,7 @@
 pub use argument::{Arg, Form};
 pub use command::Command;
 pub use line::{LINE_LIMIT, Line, LineRefusal, parse_line};
-pub use word::{EditWord, Word, forms_of};
+pub use word::{EditWord, QueryWord, Word, forms_of};
 
 mod argument;
 mod command;

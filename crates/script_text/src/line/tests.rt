@@ -1,5 +1,5 @@
 use super::*;
-use crate::word::{EditWord, Word};
+use crate::word::{EditWord, QueryWord, Word};
 use std::process::Abort;
 use std::test::Fail;
 
@@ -17,7 +17,7 @@ fn refuses_at_the_first_fault(rt: HostRuntime) {
         ("edge n1", 8),
         (" edge n1 \r", 9),
         ("edge n1 n2 n3", 12),
-        ("reach n1 n2", 1),
+        ("reach n1 n2 #", 13),
         ("edge x", 6),
         ("edge m1 n1", 6),
         ("edge n n1", 6),
@@ -86,6 +86,14 @@ fn reads_commands(rt: HostRuntime) {
         b" edge\tn4294967295 \r n1000000000\r",
         edge,
         &[Arg::Node(4_294_967_295), Arg::Node(1_000_000_000)],
+    );
+    let reach = Word::Query(QueryWord::Reach);
+    assert_command(
+        &rt,
+        rt.alloc(),
+        b"reach n9 n9 ",
+        reach,
+        &[Arg::Node(9), Arg::Node(9)],
     );
 }
 
