@@ -1,0 +1,205 @@
+-- What the walks over a block's places share: how a row of places is opened at one of them, and closed again.
+-- Assumes `Logic`.
+--     start_had, start_made, mark_had, mark_made      a value of one pointer, and one of no bytes
+--     place_out, place_in, place_seen      one place is taken out of its row, put back, or seen
+--     room_to_row, row_to_room      raw room for an array is a row of empty places
+use mathlib.Core.Path.{◌≡◌, refl, subst}
+use Prim.Native.Nat.{ℕ, zero, suc, ◌+◌, ◌*◌, ◌<◌}
+use native.Mathlib.Omega.{arith}
+use native.Mathlib.Nat.{zero-mul, suc-mul}
+use mathlib.Core.List.{List, [], ◌∷◌, ◌++◌}
+use lib.ListN.{length, set, get_or, replicate}
+use seplogic.Ra.Ura.{Ura}
+use base.Fraction.{full_share}
+use mir.Syntax.{Ty, ty_array}
+use mir.Val.{Val, vstruct, vcons, vnil, of_list}
+use base.Logic.{SProp, ent, sep, emp, ex, guard, via, fst∗, snd∗}
+use base.Fml.{Fml, Lft, ftrue, fsep, fat, froom}
+use types.Logic.{Logic, sem}
+use contract.Monad.{fact, fact_i}
+use types.Kit.{Item, Goal, Seq, Step, step, prop, ‵, raw, some, ◌⊛◌, ◌$◌, ◌∵◌, !, qed, by, move, keep, drop, use0, use1, use2, pick, split, check, show, frame, fsplit, fjoin, fpick, fpack, feq_i, feq_l, rewrite, done}
+use denote.RattleType.{RattleType, Valss}
+use denote.Laws.{Typed, Is, shows}
+use denote.Param.{param, layout}
+use denote.Param.Laws.{Laws, param_laws}
+use denote.Memory.{part_at}
+use denote.RawPtr.{Ptr, RawPtr, ptr_val}
+use denote.Shadow.{makes_shadow}
+use denote.Steps.{nothing, peeks}
+use denote.Struct.Struct.{Shape, Struct, within}
+use denote.Struct.Owning.{shape}
+use denote.Struct.Declared as Declared
+use denote.Struct.Tuple.{Tuple, tuple_type}
+use borrow.Table.OneValue.{part_in, part_out}
+use Rattle.std.specs.Prelude.{Option, Some, None}
+use Rattle.std.specs.Mem.{type_size}
+use Rattle.core.proofs.mem.Param.{El, R, el_x, elτ}
+use Rattle.std_alloc.proofs.RcSteps.{Good, word}
+use Rattle.item_pool.specs.Ownership.{place, places, place_lent, row_lent}
+use Rattle.item_pool.specs.contracts.places.Places as P
+use Rattle.item_pool.specs.contracts.places.Start as S
+
+-- at values of the type E: the owner of places, the start of a block, the size of a value
+module _ (E : El) where
+  abbrev pub Pl : RattleType
+  Pl = P.the_row (R E)
+
+  abbrev pub St : RattleType
+  St = S.the_row (R E)
+
+  abbrev pub size : ℕ
+  size = type_size (R E)
+
+  abbrev pub Place : Type 0
+  Place = Option (el_x E)
+
+  -- the one field of the owner that is there when the program runs, and takes no bytes
+  abbrev pub Mark : RattleType
+  Mark = Struct (shape (P.the_type (R E)))
+
+abbrev pub mark : Val
+mark = vstruct (vcons (vstruct vnil) vnil)
+
+abbrev pointer_shape : Shape
+pointer_shape = record { name = []; args = []; types = []; fields = RawPtr ∷ [] }
+
+abbrev Pointer : RattleType
+Pointer = Struct pointer_shape
+
+pub mark_made : (E : El) {M : Type 1} {𝓤 : Ura M} (𝓛 : Logic 𝓤) → ent 𝓤 (emp 𝓤) (sem 𝓛 ((Mark E).own_val (tt, tt) (mark ∷ [])))
+mark_made E 𝓛 = makes_shadow 𝓛 ((Mark E).own_val (tt, tt) (mark ∷ [])) (λ _. (tt, ((λ _. (tt, tt)), tt))) ((vstruct vnil ∷ [], tt), (refl, ((tt, (refl, tt)), tt)))
+
+module _ {M : Type 1} {𝓤 : Ura M} {𝓛 : Logic 𝓤} {K : Type 0} {Γ : List (Item 𝓤)} {G : Goal 𝓤 𝓛.H} where
+  pub start_made : K → (p : Ptr) → Step K 𝓛 (‵ (Pointer.own_val (p, tt) (word p ∷ [])) ∷ Γ) G Γ G
+  start_made t p = step (λ rest.
+      nothing t $ feq_i t (List Val) (ptr_val p ∷ []) (ptr_val p ∷ []) refl $ fjoin t $ feq_i t (List Val) (word p ∷ []) (word p ∷ []) refl $ fjoin t $
+      fpack t (Valss (RawPtr ∷ [])) (within pointer_shape (p, tt) (word p ∷ [])) (ptr_val p ∷ [], tt) $ rest)
+
+  pub start_had : K → (p : Ptr) (vs : List Val) → (vs ≡ word p ∷ [] → Seq K 𝓛 Γ G) → Seq K 𝓛 (‵ (Pointer.own_val (p, tt) vs) ∷ Γ) G
+  start_had t p vs rest =
+      let wrapped = λ (ws : List Val). vs ≡ vstruct (of_list (ws ++ [])) ∷ [] in
+      fpick t (λ _. fsplit t $ feq_l t (λ whole. fsplit t $ feq_l t (λ field. drop t $ rest (subst wrapped field whole))))
+
+  pub mark_had : K → (E : El) (vs : List Val) → (vs ≡ mark ∷ [] → Seq K 𝓛 Γ G) → Seq K 𝓛 (‵ ((Mark E).own_val (tt, tt) vs) ∷ Γ) G
+  mark_had t E vs rest =
+      let wrapped = λ (ws : List Val). vs ≡ vstruct (of_list (ws ++ [])) ∷ [] in
+      fpick t (λ _. fsplit t $ feq_l t (λ whole. fsplit t $ fpick t (λ _. fsplit t $ feq_l t (λ field. drop t $ drop t $ rest (subst wrapped field whole)))))
+
+module _ {M : Type 1} {𝓤 : Ura M} {𝓛 : Logic 𝓤} {K : Type 0} {Γ : List (Item 𝓤)} where
+  -- two facts that are shown at once
+  pub says_two : K → {φ ψ : Type 0} {Q : SProp 𝓤} → φ → ψ → Step K 𝓛 Γ (prop Q) Γ (prop (sep 𝓤 Q (sep 𝓤 (fact 𝓤 φ) (fact 𝓤 ψ))))
+  says_two t {φ} {ψ} {Q} x y = step (λ s. record {
+    prf = via 𝓤 Q s.prf (qed 𝓛 (raw Q ∷ []) {P = sep 𝓤 Q (sep 𝓤 (fact 𝓤 φ) (fact 𝓤 ψ))} (
+        frame ! $ use0 𝓛 (raw (fact 𝓤 ψ)) (fact_i 𝓤 ψ (emp 𝓤) y) $ use0 𝓛 (raw (fact 𝓤 φ)) (fact_i 𝓤 φ (emp 𝓤) x) $ done !));
+  })
+
+-- A VALUE AND THE BYTES THAT IT LIES IN
+
+module _ (Y : RattleType) (L : Laws Y) {M : Type 1} {𝓤 : Ura M} (𝓛 : Logic 𝓤) where
+  open 𝓛 use {H}
+
+  abbrev Row : RattleType
+  Row = param 0 Y
+
+  abbrev Bytes : Y.Denot → ℕ → ℕ → Val → SProp 𝓤
+  Bytes x b o v = sep 𝓤 (H.at full_share (layout Y) b o v) (sem 𝓛 (Y.own_val x (v ∷ [])))
+
+  pub value_out : (x : Y.Denot) (b o : ℕ) → ent 𝓤 (sem 𝓛 (part_at Row full_share x b o)) (ex 𝓤 (λ (v : Val). guard 𝓤 (Good (layout Y) v) (Bytes x b o v)))
+  value_out x b o = qed 𝓛 (‵ (part_at Row full_share x b o) ∷ []) ∵
+      use1 𝓛 (some (λ (v : Val). ‵ (fat full_share (layout Y) b o v) ⊛ ‵ (Y.own_val x (v ∷ [])))) (part_out 𝓛 Row refl full_share x b o) $ pick ! (λ v. split ! $ move ! (1 ∷ []) $
+      peeks ! Row (Is Row) (shows 𝓛 Row) x (v ∷ []) (λ is.
+      show ! (λ (w : Val). guard 𝓤 (Good (layout Y) w) (Bytes x b o w)) v $ check ! (((param_laws 0 Y L).lawful 𝓛).typed x (v ∷ []) is).0 $ move ! (1 ∷ 0 ∷ []) $ done !))
+
+  pub value_in : (x : Y.Denot) (b o : ℕ) (v : Val) → ent 𝓤 (Bytes x b o v) (sem 𝓛 (part_at Row full_share x b o))
+  value_in x b o v = part_in 𝓛 Row refl full_share x b o v
+
+single : (τ : Ty) (vs : List Val) → Typed (τ ∷ []) vs → (v : Val) × ((vs ≡ v ∷ []) × Good τ v)
+single τ [] t = absurd t
+single τ (v ∷ []) t = (v, (refl, t.0))
+single τ (v ∷ _ ∷ _) t = absurd t.1
+
+module _ (Y : RattleType) (L : Laws Y) {M : Type 1} {𝓤 : Ura M} {𝓛 : Logic 𝓤} {K : Type 0} {Γ : List (Item 𝓤)} {G : Goal 𝓤 𝓛.H} where
+  -- a value that is passed is one machine value of its type
+  pub value_had : K → (x : Y.Denot) (vs : List Val) → ((v : Val) → vs ≡ v ∷ [] → Good (layout Y) v → Seq K 𝓛 (‵ (Y.own_val x (v ∷ [])) ∷ Γ) G) → Seq K 𝓛 (‵ (Y.own_val x vs) ∷ Γ) G
+  value_had t x vs rest =
+      peeks t (param 0 Y) (Is (param 0 Y)) (shows 𝓛 (param 0 Y)) x vs (λ is.
+      let one = single (layout Y) vs (((param_laws 0 Y L).lawful 𝓛).typed x vs is) in
+      rewrite t 0 (λ (us : List Val). ‵ (Y.own_val x us)) one.1.0 refl $ rest one.0 one.1.0 one.1.1)
+
+abbrev pub triple : Val → Val → Val → Val
+triple u v w = vstruct (vcons u (vcons v (vcons w vnil)))
+
+pub triple_made : {M : Type 1} {𝓤 : Ura M} (𝓛 : Logic 𝓤) (A B C : RattleType) (x : A.Denot) (y : B.Denot) (z : C.Denot) (u v w : Val)
+    → ent 𝓤 (sep 𝓤 (sem 𝓛 (A.own_val x (u ∷ []))) (sep 𝓤 (sem 𝓛 (B.own_val y (v ∷ []))) (sem 𝓛 (C.own_val z (w ∷ []))))) (sem 𝓛 ((Tuple (A ∷ B ∷ C ∷ [])).own_val (x, y, z) (triple u v w ∷ [])))
+triple_made 𝓛 A B C x y z u v w =
+    let types = A ∷ B ∷ C ∷ [] in
+    qed 𝓛 (‵ (A.own_val x (u ∷ [])) ∷ ‵ (B.own_val y (v ∷ [])) ∷ ‵ (C.own_val z (w ∷ [])) ∷ []) ∵ nothing ! $ move ! (3 ∷ 0 ∷ []) $ fjoin ! $ move ! (2 ∷ 0 ∷ []) $ fjoin ! $ move ! (1 ∷ 0 ∷ []) $ fjoin ! $
+    feq_i ! (List Val) (triple u v w ∷ []) (triple u v w ∷ []) refl $ fjoin ! $
+    fpack ! (Valss types) (within (Declared.shape (tuple_type types)) (x, (y, (z, tt))) (triple u v w ∷ [])) (u ∷ [], (v ∷ [], (w ∷ [], tt))) $ done !
+
+-- ONE PLACE AND THE OTHERS
+
+pub in_row : {X : Type 0} (row : List (Option X)) (i : ℕ) (x : X) → get_or row i None ≡ Some x → i < length row
+in_row [] i x e = cc
+in_row (p ∷ row) zero x e = omega arith
+in_row (p ∷ row) (suc i) x e = omega (arith, in_row row i x e)
+
+module _ (E : El) (b : ℕ) where
+  -- the row from the byte o on, without the place at the index
+  abbrev pub others : ℕ → List (Place E) → ℕ → Fml
+  others o [] i = ftrue
+  others o (p ∷ row) zero = places (R E) b (o + size E) row
+  others o (p ∷ row) (suc i) = fsep (place (R E) b o p) (others (o + size E) row i)
+
+module _ (E : El) {M : Type 1} {𝓤 : Ura M} (𝓛 : Logic 𝓤) (b : ℕ) where
+  open 𝓛 use {H}
+
+  abbrev s : ℕ
+  s = size E
+
+  abbrev One : ℕ → Place E → Fml
+  One = place (R E) b
+
+  abbrev All : ℕ → List (Place E) → Fml
+  All = places (R E) b
+
+  out_at : (row : List (Place E)) (i o at : ℕ) → at ≡ i * s + o → i < length row → ent 𝓤 (sem 𝓛 (All o row)) (sep 𝓤 (sem 𝓛 (One at (get_or row i None))) (sem 𝓛 (others E b o row i)))
+  out_at [] i o at e lt = absurd (omega arith)
+  out_at (p ∷ row) zero o at e lt = qed 𝓛 (‵ (All o (p ∷ row)) ∷ []) ∵ fsplit ! $ rewrite ! 0 (λ (k : ℕ). ‵ (One k p)) {x = at} (omega (arith, zero-mul s)) refl $ done !
+  out_at (p ∷ row) (suc i) o at e lt = let next : at ≡ suc i * s + o = e in qed 𝓛 (‵ (All o (p ∷ row)) ∷ []) ∵ fsplit ! $ move ! (1 ∷ []) $
+      use1 𝓛 (‵ (One at (get_or row i None)) ⊛ ‵ (others E b (o + s) row i)) (out_at row i (o + s) at (omega (arith, suc-mul i s)) (omega arith)) $ split ! $ move ! (2 ∷ 1 ∷ []) $ fjoin ! $ move ! (1 ∷ 0 ∷ []) $ done !
+
+  in_at : (row : List (Place E)) (i o at : ℕ) → at ≡ i * s + o → i < length row → (q : Place E) → ent 𝓤 (sep 𝓤 (sem 𝓛 (One at q)) (sem 𝓛 (others E b o row i))) (sem 𝓛 (All o (set row i q)))
+  in_at [] i o at e lt q = absurd (omega arith)
+  in_at (p ∷ row) zero o at e lt q = qed 𝓛 (‵ (One at q) ∷ ‵ (All (o + s) row) ∷ []) ∵ rewrite ! 0 (λ (k : ℕ). ‵ (One k q)) {x = o} (omega (arith, zero-mul s)) refl $ fjoin ! $ done !
+  in_at (p ∷ row) (suc i) o at e lt q = let next : at ≡ suc i * s + o = e in qed 𝓛 (‵ (One at q) ∷ ‵ (others E b o (p ∷ row) (suc i)) ∷ []) ∵ move ! (1 ∷ []) $ fsplit ! $ move ! (2 ∷ 1 ∷ []) $
+      use2 𝓛 (‵ (All (o + s) (set row i q))) (in_at row i (o + s) at (omega (arith, suc-mul i s)) (omega arith) q) $ move ! (1 ∷ 0 ∷ []) $ fjoin ! $ done !
+
+  module _ (o : ℕ) (row : List (Place E)) (i : ℕ) (lt : i < length row) where
+    pub place_out : ent 𝓤 (sem 𝓛 (All o row)) (sep 𝓤 (sem 𝓛 (One (i * s + o) (get_or row i None))) (sem 𝓛 (others E b o row i)))
+    place_out = out_at row i o (i * s + o) refl lt
+
+    pub place_in : (q : Place E) → ent 𝓤 (sep 𝓤 (sem 𝓛 (One (i * s + o) q)) (sem 𝓛 (others E b o row i))) (sem 𝓛 (All o (set row i q)))
+    place_in q = in_at row i o (i * s + o) refl lt q
+
+  seen_at : (κ : Lft) (row : List (Place E)) (i o at : ℕ) → at ≡ i * s + o → i < length row → ent 𝓤 (sem 𝓛 (row_lent (R E) b o row κ)) (sem 𝓛 (place_lent (R E) b at (get_or row i None) κ))
+  seen_at κ [] i o at e lt = absurd (omega arith)
+  seen_at κ (p ∷ row) zero o at e lt = let same : o ≡ at = omega (arith, zero-mul s) in
+      subst (λ k. ent 𝓤 (sem 𝓛 (row_lent (R E) b o (p ∷ row) κ)) (sem 𝓛 (place_lent (R E) b k p κ))) same (fst∗ 𝓤 (sem 𝓛 (place_lent (R E) b o p κ)) (sem 𝓛 (row_lent (R E) b (o + s) row κ)))
+  seen_at κ (p ∷ row) (suc i) o at e lt = let next : at ≡ suc i * s + o = e in
+      via 𝓤 (sem 𝓛 (row_lent (R E) b (o + s) row κ)) (snd∗ 𝓤 (sem 𝓛 (place_lent (R E) b o p κ)) (sem 𝓛 (row_lent (R E) b (o + s) row κ))) (seen_at κ row i (o + s) at (omega (arith, suc-mul i s)) (omega arith))
+
+  pub place_seen : (κ : Lft) (o : ℕ) (row : List (Place E)) (i : ℕ) → i < length row → ent 𝓤 (sem 𝓛 (row_lent (R E) b o row κ)) (sem 𝓛 (place_lent (R E) b (i * s + o) (get_or row i None) κ))
+  place_seen κ o row i lt = seen_at κ row i o (i * s + o) refl lt
+
+  pub room_to_row : (n o : ℕ) → ent 𝓤 (H.room (ty_array (elτ E) n) b o) (sem 𝓛 (All o (replicate n None)))
+  room_to_row zero o = qed 𝓛 (‵ (froom (ty_array (elτ E) 0) b o) ∷ []) ∵ keep ! [] $ done !
+  room_to_row (suc n) o = qed 𝓛 (‵ (froom (ty_array (elτ E) (suc n)) b o) ∷ []) ∵
+      use1 𝓛 (‵ (froom (elτ E) b o) ⊛ ‵ (froom (ty_array (elτ E) n) b (o + s))) (𝓛.laws.room_uncons (elτ E) n b o) $ split ! $
+      use1 𝓛 (‵ (One o None)) (𝓛.laws.room-raw (elτ E) b o) $ frame ! $ by ! (room_to_row n (o + s))
+
+  pub row_to_room : (n o : ℕ) → ent 𝓤 (sem 𝓛 (All o (replicate n None))) (H.room (ty_array (elτ E) n) b o)
+  row_to_room zero o = 𝓛.laws.room_nil (elτ E) b o
+  row_to_room (suc n) o = qed 𝓛 (‵ (One o None) ∷ ‵ (All (o + s) (replicate n None)) ∷ []) ∵
+      use1 𝓛 (‵ (froom (elτ E) b o)) (𝓛.laws.raw-room (elτ E) b o) $ move ! (1 ∷ []) $
+      use1 𝓛 (‵ (froom (ty_array (elτ E) n) b (o + s))) (row_to_room n (o + s)) $ move ! (1 ∷ []) $ by ! (𝓛.laws.room_cons (elτ E) n b o)

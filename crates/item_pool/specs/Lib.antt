@@ -1,0 +1,12 @@
+pub mod CellLent
+pub mod CellsKept
+pub mod CellsLent
+pub mod Chained
+pub mod Contents
+pub mod Filled
+pub mod IsBlock
+pub mod IsPool
+pub mod Joined
+pub mod Ownership
+pub mod PlaceLent
+pub mod ValueLent

@@ -1,0 +1,33 @@
+//! A pool of values, each named by the serial number that it was given when it came in.
+//!
+//! Serials are given in turn from 1 to 16,777,215, each once, so that an item that outlived its value is told from one
+//! that never was. A live value is never moved: cells lie in blocks of 64, in raw memory of their own, and a pool that
+//! grows gets one block more. (Blocks of one fixed length make a slot a block's number times 64 and a place in it, so
+//! there is nothing to look up; blocks that grew would need a search or a table.)
+//!
+//! - `places`: a block of raw memory as a row of places. All that holds a pointer stands there.
+//! - `block` and `cells`: blocks of 64 cells, and cells by their slots.
+//! - `pool`: the free cells are one chain, and a hash table has the slot of each live serial. Its room is that of the
+//!   most values that lived at once, whatever the serials are.
+//!
+//! An item has the slot that its value was put into, as a hint: where the hint is right, a look goes to the cell in one
+//! step, and else by way of the table. No answer depends on it.
+//!
+//! A cell has 8 bytes beside its `Option<T>`, and the table some 22 bytes for each value that it has room for, which is
+//! doubled where it has to grow. Memory goes back when the pool is dropped, and its live values are dropped with it.
+#![tactic(auto)]
+
+mod block;
+mod cells;
+mod places;
+mod pool;
+#[cfg(test)]
+mod tests;
+
+#[doc(hidden)]
+pub use block::{Block, Cell};
+#[doc(hidden)]
+pub use cells::Cells;
+#[doc(hidden)]
+pub use places::{Deed, Places, Start};
+pub use pool::{Gone, InsertRefusal, Item, MOST_SERIALS, Pool, ReserveRefusal};

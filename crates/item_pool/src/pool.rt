@@ -1,0 +1,365 @@
+//! The pool: cells of live values, a chain of free cells, and a table from serials to slots.
+ghost use Rattle.std.specs.Prelude.{◌≡◌, ℕ, ◌+◌, ◌*◌, ◌<◌, ◌≤◌, ◌^◌, get_or, slice_set, length, nat_eq, Some, None, OnOk, OnErr, IfOk, IfErr, MatchResult, IsOk, IsSome};
+ghost use Rattle.std.specs.Borrow.{sem};
+ghost use Rattle.std.specs.HashMap.{get};
+ghost use Rattle.std.specs.FinMap as map;
+ghost use Rattle.item_pool.specs.Chained.{blank};
+ghost use Rattle.item_pool.specs.CellsKept.{cell_at, IsChain, IsLive, IsGrown};
+ghost use Rattle.item_pool.specs.Contents.{contents, IsAsBefore, IsWithin, Holds, HasLive, Lacks, Inserts, Refuses, Removes, WhyGone};
+
+use crate::block::BLOCK;
+use crate::cells::Cells;
+use std::alloc::Global;
+use std::collections::HashMap;
+use std::marker::Model;
+use std::mem;
+
+/// The most serials that a pool gives: serials are 1 to this number.
+pub const MOST_SERIALS: u32 = 16_777_215;
+
+/// Names a value of a pool by its serial. The slot is a hint, by which the value is found sooner: no answer depends on
+/// it.
+#[derive(Clone, Copy, PartialEq, Eq, Debug)]
+pub struct Item {
+    /// Where the value lay when the item was made.
+    pub slot: u32,
+    /// The serial, which no other value of the pool is ever given.
+    pub serial: u32,
+}
+
+/// Why there is no value with a serial.
+#[derive(Clone, Copy, PartialEq, Eq, Debug)]
+pub enum Gone {
+    /// There was one, and it was removed.
+    Dead,
+    /// There was never one.
+    Unknown,
+}
+
+/// Why a value wasn't taken in. It comes back.
+#[derive(Debug, Drop)]
+pub enum InsertRefusal<T> {
+    /// There was no memory.
+    NoMemory(T),
+    /// Each serial has been given.
+    Spent(T),
+}
+
+/// Why no room was made.
+#[derive(Clone, Copy, PartialEq, Eq, Debug)]
+pub enum ReserveRefusal {
+    /// There was no memory.
+    NoMemory,
+}
+
+/// A pool of values, each named by the serial that it was given when it came in. Serials are given in turn, from 1 on.
+///
+/// A clause sees the live values as a finite map from serials, with how many serials were made, and how many values
+/// can come in before there has to be more memory.
+#[derive(Drop)]
+pub struct Pool<T> {
+    cells: Cells<T>,
+    /// The slot of each live value, by its serial.
+    slots: HashMap<u32, u32>,
+    /// The slot that the chain of free cells starts at, where there are any.
+    first: u32,
+    free: u32,
+    live: u32,
+    made: u32,
+}
+
+impl<T> Model for Pool<T> {
+    ghost use Rattle.item_pool.specs.Contents.{Contents, contents, contents_code};
+
+    ghost Value = { Contents T };
+
+    ghost coded = { contents_code T.code };
+
+    ghost use Rattle.std.specs.Prelude.{min};
+    ghost use Rattle.std.specs.HashMap.{spare};
+    ghost use Rattle.item_pool.specs.CellsKept.{live_of};
+    ghost use Rattle.item_pool.specs.IsPool.{IsPool};
+
+    ghost view = { λ p. contents (live_of p.cells) p.made (min p.free (spare p.slots)) };
+
+    ghost invariant = { λ p. IsPool p };
+}
+
+/// The slot of a live value. Where the item's slot is the right one, the table isn't asked.
+#[inline]
+fn find<T>(cells: &Cells<T>, slots: &HashMap<u32, u32>, len: u32, it: Item) -> Option<u32>
+    requires len { len ≡ length cells.now }
+    requires listed { (i s : ℕ) (x : T) → IsLive (cell_at cells.now) i s x → get nat_eq slots.now s ≡ Some i }
+    ensures { result ≡ get nat_eq slots.now it.serial }
+{
+    if it.slot < len {
+        let cell = cells.get(it.slot);
+        if cell.number == it.serial && cell.value.is_some() {
+            return Some(it.slot);
+        }
+    }
+    slots.get(&it.serial).copied()
+}
+
+/// Why no value has the serial, where none has.
+fn why_gone(made: u32, serial: u32) -> Gone
+    ensures { WhyGone made serial result }
+{
+    if serial == 0 || made < serial {
+        Gone::Unknown
+    } else {
+        Gone::Dead
+    }
+}
+
+/// Puts a value into a free cell, and answers what the cell was linked to.
+fn occupy<T>(cells: &mut Cells<T>, slot: u32, serial: u32, value: T) -> u32
+    requires slot { slot < length cells.old }
+    requires free { (cell_at cells.old slot).value ≡ None }
+    ensures cells { cells.new ≡ slice_set cells.old slot (record { number = serial; link = (cell_at cells.old slot).link; value = Some value }) }
+    ensures link { result ≡ (cell_at cells.old slot).link }
+{
+    let cell = cells.get_mut(slot);
+    cell.number = serial;
+    match mem::replace(&mut cell.value, Some(value)) {
+        None => cell.link,
+        Some(_) => unreachable!(),
+    }
+}
+
+/// Takes the value out of a live cell, and puts the cell in front of a chain, whose length is then `number`.
+fn vacate<T>(cells: &mut Cells<T>, slot: u32, number: u32, link: u32) -> T
+    requires slot { slot < length cells.old }
+    requires live { IsSome (cell_at cells.old slot).value }
+    ensures cells { cells.new ≡ slice_set cells.old slot (record { number = number; link = link; value = None }) }
+    ensures value { (cell_at cells.old slot).value ≡ Some result }
+{
+    let cell = cells.get_mut(slot);
+    cell.number = number;
+    cell.link = link;
+    match cell.value.take() {
+        Some(value) => value,
+        None => unreachable!(),
+    }
+}
+
+/// Adds free cells until there are at least `n`, or answers that there is no memory. The live cells are as before.
+fn add_cells<T>(
+    cells: &mut Cells<T>,
+    first: &mut u32,
+    free: &mut u32,
+    live: u32,
+    n: u32,
+) -> Result<(), ReserveRefusal>
+    requires chain { IsChain (cell_at cells.old) (length cells.old) first.old free.old }
+    requires total { free.old + live ≡ length cells.old }
+    requires few { (n ≤ 16777215) × (live ≤ 16777215) × (length cells.old < 2 ^ 26) }
+    ensures chain { IsChain (cell_at cells.new) (length cells.new) first.new free.new }
+    ensures total { (free.new + live ≡ length cells.new) × (length cells.new < 2 ^ 26) }
+    ensures live { IsGrown cells.old cells.new }
+    ensures more { free.old ≤ free.new }
+    ensures ok { OnOk result (n ≤ free.new) }
+    ensures succeeds { n ≤ free.old → IsOk result }
+{
+    while *free < n {
+        let len = *free + live;
+        match cells.grow(len, *free, *first) {
+            Ok(()) => {
+                *first = len;
+                *free += BLOCK;
+            }
+            Err(_) => return Err(ReserveRefusal::NoMemory),
+        }
+    }
+    Ok(())
+}
+
+impl<T> Pool<T> {
+    ghost use Rattle.item_pool.specs.ValueLent.{lends_value};
+
+    /// A pool of no values, which takes no memory.
+    pub fn new(alloc: Global) -> Pool<T>
+        ensures { result ≡ contents map.empty 0 0 }
+    {
+        Pool {
+            cells: Cells::new(alloc),
+            slots: HashMap::new(alloc),
+            first: 0,
+            free: 0,
+            live: 0,
+            made: 0,
+        }
+    }
+
+    /// Makes room for `n` values more, of which none is then refused. `n` is at most `MOST_SERIALS`.
+    ///
+    /// # Errors
+    ///
+    /// `NoMemory` where there is no memory, which isn't so where there is room for `n` already. The values are as before,
+    /// and there is no less room.
+    pub fn reserve(&mut self, n: u32) -> Result<(), ReserveRefusal>
+        requires { n ≤ 16777215 }
+        ensures kept { IsAsBefore self.old self.new }
+        ensures ok { OnOk result (n ≤ self.new.spare) }
+        ensures succeeds { n ≤ self.old.spare → IsOk result }
+    {
+        if self.slots.reserve(n as usize).is_err() {
+            return Err(ReserveRefusal::NoMemory);
+        }
+        add_cells(
+            &mut self.cells,
+            &mut self.first,
+            &mut self.free,
+            self.live,
+            n,
+        )
+    }
+
+    /// Takes a value in under the next serial.
+    ///
+    /// # Errors
+    ///
+    /// `Spent` exactly where `MOST_SERIALS` serials were given, and `NoMemory` where there is no memory, which isn't so
+    /// where there is room to spare. The value comes back, and the others are as before.
+    pub fn insert(&mut self, value: T) -> Result<Item, InsertRefusal<T>>
+        ensures ok { IfOk result (λ it. Inserts self.old self.new it value) }
+        ensures err { IfErr result (λ why. Refuses self.old self.new value why) }
+    {
+        if self.made() == MOST_SERIALS {
+            return Err(InsertRefusal::Spent(value));
+        }
+        if self.spare() == 0 && self.reserve(1).is_err() {
+            return Err(InsertRefusal::NoMemory(value));
+        }
+        Ok(self.insert_reserved(value))
+    }
+
+    /// Takes a value in under the next serial, in room that there is. It can't be refused.
+    pub fn insert_reserved(&mut self, value: T) -> Item
+        requires spare { 0 < self.old.spare }
+        requires made { self.old.made < 16777215 }
+        ensures { Inserts self.old self.new result value }
+    {
+        let slot = self.first;
+        let serial = self.made + 1;
+        let next = occupy(&mut self.cells, slot, serial, value);
+        match self.slots.insert(serial, slot) {
+            Ok(_) => {}
+            Err(_) => unreachable!(),
+        }
+        self.first = next;
+        self.free -= 1;
+        self.live += 1;
+        self.made = serial;
+        Item { slot, serial }
+    }
+
+    /// The value of an item.
+    ///
+    /// # Errors
+    ///
+    /// `Dead` where the serial is from 1 to the number made and isn't live, and `Unknown` where it is 0 or above.
+    #[inline]
+    pub fn get(&self, it: Item) -> Result<&T, Gone>
+        ensures { MatchResult result (λ v. Holds self.now it.serial v.now) (λ why. Lacks self.now it.serial why) }
+    {
+        match find(&self.cells, &self.slots, self.free + self.live, it) {
+            Some(slot) => match self.cells.get(slot).value.as_ref() {
+                Some(value) => Ok(value),
+                None => unreachable!(),
+            },
+            None => Err(why_gone(self.made, it.serial)),
+        }
+    }
+
+    /// The value of an item, to be written to.
+    ///
+    /// # Errors
+    ///
+    /// As those of `get`.
+    #[inline]
+    pub fn get_mut(&mut self, it: Item) -> Result<&mut T, Gone>
+        ensures* writes_back { sem 𝓛 (lends_value T.row self.entry it.serial result) }
+        ensures value { MatchResult result (λ v. Holds self.old it.serial v.now) (λ why. Lacks self.old it.serial why) }
+    {
+        match find(&self.cells, &self.slots, self.free + self.live, it) {
+            Some(slot) => {
+                let cell = self.cells.get_mut(slot);
+                match cell.value.as_mut() {
+                    Some(value) => Ok(value),
+                    None => unreachable!(),
+                }
+            }
+            None => Err(why_gone(self.made, it.serial)),
+        }
+    }
+
+    /// Takes a value out. No value is ever given its serial again.
+    ///
+    /// # Errors
+    ///
+    /// As those of `get`. The pool is then as it was.
+    pub fn remove(&mut self, it: Item) -> Result<T, Gone>
+        ensures { MatchResult result (λ v. Removes self.old self.new it.serial v) (λ why. Lacks self.old it.serial why × (self.new ≡ self.old)) }
+    {
+        match find(&self.cells, &self.slots, self.free + self.live, it) {
+            Some(slot) => {
+                let value = vacate(&mut self.cells, slot, self.free + 1, self.first);
+                let _slot = self.slots.remove(&it.serial);
+                self.first = slot;
+                self.free += 1;
+                self.live -= 1;
+                Ok(value)
+            }
+            None => Err(why_gone(self.made, it.serial)),
+        }
+    }
+
+    /// The item of a live serial.
+    ///
+    /// # Errors
+    ///
+    /// As those of `get`.
+    pub fn item(&self, serial: u32) -> Result<Item, Gone>
+        ensures { MatchResult result (λ it. (it.serial ≡ serial) × HasLive self.now serial) (λ why. Lacks self.now serial why) }
+    {
+        match self.slots.get(&serial) {
+            Some(slot) => Ok(Item {
+                slot: *slot,
+                serial,
+            }),
+            None => Err(why_gone(self.made, serial)),
+        }
+    }
+
+    /// How many values there are.
+    #[inline]
+    pub fn len(&self) -> u32
+        ensures len { result ≡ map.len self.now.live }
+        ensures within { result ≤ self.now.made }
+    {
+        self.live
+    }
+
+    /// How many serials were given, which is also the last one.
+    #[inline]
+    pub fn made(&self) -> u32
+        ensures made { result ≡ self.now.made }
+        ensures within { IsWithin self.now }
+    {
+        self.made
+    }
+
+    /// How many values can come in with no new memory.
+    #[inline]
+    pub fn spare(&self) -> u32
+        ensures { result ≡ self.now.spare }
+    {
+        let slots = self.slots.capacity() - self.slots.len();
+        if slots < self.free as usize {
+            slots as u32
+        } else {
+            self.free
+        }
+    }
+}

@@ -1,0 +1,17 @@
+pub mod Blocks
+pub mod Plans
+pub mod Edits
+pub mod Links
+pub mod Looks
+pub mod Lists
+pub mod Makes
+pub mod Maps
+pub mod Apart
+pub mod Callers
+pub mod Counts
+pub mod Holds
+pub mod Unlinks
+pub mod Rows
+pub mod Shares
+pub mod Stock
+pub mod Steps

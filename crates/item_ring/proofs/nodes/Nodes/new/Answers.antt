@@ -1,0 +1,5 @@
+use Rattle.item_ring.proofs.Rows.{none_keeps}
+use Rattle.item_ring.proofs.nodes.Nodes.new.Goals as goal
+
+pub invariant_of-result : goal.invariant_of-result
+invariant_of-result c = none_keeps c.new.result.items c.new.ensures.items

@@ -1,0 +1,34 @@
+-- The ring keeps `mid`, and there is one member more at most.
+use Rattle.std.proofs.Common.{◌≡◌, ◌+◌, ◌≤◌, ◌∷◌, ◌++◌, [], arith, inl, inr, refl, sym, subst, ap, ◌∙◌}
+use Rattle.std.specs.FinMap as map
+use Rattle.item_ring.specs.RingLists.{IsIn, IsLinkedIn, ring, with_after}
+use Rattle.item_ring.proofs.Callers.{linked_on, linked_same, one_more, in_with_after}
+use Rattle.item_ring.proofs.Lists.{in_left}
+use Rattle.item_ring.proofs.tests.add_back.Goals as goal
+
+pub push_back-requires-clause-head : goal.push_back-requires-clause-head
+push_back-requires-clause-head c =
+    let now = linked_same c.args.rings.now c.add_member.new.self c.args.h c.args.mid c.add_member.ensures.same.0 c.requires.linked in
+    now.head
+
+pub push_back-requires-clause-member : goal.push_back-requires-clause-member
+push_back-requires-clause-member c = subst (λ l. IsIn c.in_ok-m.m l) (sym c.in_ok-m.ensures.made.2) (inl refl)
+
+pub returns-in_err-m-clause-linked : goal.returns-in_err-m-clause-linked
+returns-in_err-m-clause-linked c =
+    let now = linked_same c.args.rings.now c.add_member.new.self c.args.h c.args.mid c.add_member.ensures.same.0 c.requires.linked in
+    now
+
+pub returns-in_err-m-clause-more : goal.returns-in_err-m-clause-more
+returns-in_err-m-clause-more c = let same = ap (λ s. map.len s.tags) c.in_err-m.ensures.refused in omega (arith, same)
+
+pub returns-clause-linked : goal.returns-clause-linked
+returns-clause-linked c =
+    let now = linked_same c.args.rings.now c.add_member.new.self c.args.h c.args.mid c.add_member.ensures.same.0 c.requires.linked in
+    linked_on c.add_member.new.self c.push_back.new.self c.args.h c.args.mid (ring c.add_member.new.self c.args.h ++ c.in_ok-m.m ∷ []) c.push_back.ensures.rings (in_left c.args.mid (ring c.add_member.new.self c.args.h) (c.in_ok-m.m ∷ []) now.member)
+
+pub returns-clause-more : goal.returns-clause-more
+returns-clause-more c =
+    let same = ap map.len c.push_back.ensures.tags in
+    let more = one_more c.args.rings.now.tags c.add_member.new.self.tags c.in_ok-m.m c.args.tag c.in_ok-m.ensures.made.1 in
+    omega (arith, same, more)

@@ -1,0 +1,14 @@
+-- How a block stores its row.
+use Rattle.std.specs.Prelude.{◌≡◌, length}
+use Rattle.item_ring.specs.declared.block.Block.TheInside.{Inside}
+use Rattle.item_ring.specs.Row.{Row}
+
+abbrev pub row_of : Inside → Row
+row_of a = record { at = a.cells.at; slots = a.cells.slots }
+
+pub record IsBlock (a : Inside) : Type 0 where
+  pub owned : a.cells.at ≡ a.start.at
+  pub freed_at : a.deed.at ≡ a.start.at
+  pub freed_len : a.deed.len ≡ 256
+  pub freed_by : a.deed.alloc ≡ a.alloc
+  pub full : length a.cells.slots ≡ 256

@@ -1,0 +1,10 @@
+pub mod AreNodes
+pub mod AreRings
+pub mod IsBlock
+pub mod Memory
+pub mod Nodes
+pub mod RingLists
+pub mod RingsHold
+pub mod Row
+pub mod Seen
+pub mod Turns
