@@ -1,13 +1,13 @@
 -- Rings of one value have no node in common.
-use Rattle.std.proofs.Common.{◌≡◌, ℕ, ◌<◌, Bool, true, false, cond, List, [], ◌∷◌, ◌++◌, Option, Some, None, is_some, unwrap_or, refl, sym, ap, subst, ◌∙◌, ◌⊎◌, inl, inr, arith}
+use Rattle.std.proofs.Common.{◌≡◌, ℕ, ◌<◌, true, cond, List, [], Some, None, is_some, unwrap_or, refl, sym, ap, subst, ◌∙◌, ◌⊎◌, inl, inr}
 use Rattle.std.specs.FinMap as map
 use Rattle.std.specs.FinMap.{FinMap}
 use Rattle.std.specs.Ordering.{nat_cmp}
 use Rattle.item_ring.specs.declared.block.State.{State}
 use Rattle.item_ring.specs.declared.block.State.TheVariants.{Free, Loose, Linked, Head}
-use Rattle.item_ring.specs.Nodes.{Slots, next_of, prev_of, ring_of, value_of, state_of}
-use Rattle.item_ring.specs.RingLists.{RingLists, IsIn, IsDistinct, list_in, ring, IsHead, IsLinked, IsLinkedIn, IsLoose, AreApart}
-use Rattle.item_ring.specs.AreRings.{is_head, is_member, IsRing, IsListed, AreRings}
+use Rattle.item_ring.specs.Nodes.{Slots, ring_of, value_of, state_of}
+use Rattle.item_ring.specs.RingLists.{RingLists, IsIn, list_in, ring, IsHead, IsLinkedIn, IsLoose, AreApart}
+use Rattle.item_ring.specs.AreRings.{is_head, is_member, IsRing, AreRings}
 use Rattle.item_ring.specs.Seen.{View}
 use Rattle.item_ring.proofs.Maps.{get_new, get_else}
 

@@ -1,11 +1,11 @@
 -- What a caller makes of the clauses.
-use Rattle.std.proofs.Common.{◌≡◌, ℕ, ◌+◌, ◌≤◌, Bool, true, false, cond, List, [], ◌∷◌, Some, is_some, refl, sym, ap, subst, ◌∙◌, ◌⊎◌, inl, inr, arith}
+use Rattle.std.proofs.Common.{◌≡◌, ℕ, ◌+◌, ◌≤◌, Bool, true, false, cond, List, [], ◌∷◌, is_some, refl, sym, ap, subst, ◌∙◌, inl, inr, arith}
 use Rattle.std.proofs.lemmas.Bool.Decides.{eqb_tells}
 use Rattle.std.specs.FinMap as map
 use Rattle.std.specs.FinMap.{FinMap, len-insert}
 use Rattle.std.specs.Ordering.{nat_cmp}
 use Rattle.std.specs.Cmp.{nat_cmp_total}
-use Rattle.item_ring.specs.RingLists.{RingLists, IsIn, IsHead, IsLinkedIn, ring, with_after, with_before}
+use Rattle.item_ring.specs.RingLists.{RingLists, IsIn, IsLinkedIn, ring, with_after, with_before}
 use Rattle.item_ring.proofs.Apart.{list_new}
 use Rattle.item_ring.proofs.Maps.{get_new}
 

@@ -1,5 +1,5 @@
 -- What a chain of writes comes to, cell by cell.
-use Rattle.std.proofs.Common.{◌≡◌, ℕ, Some, refl, sym, ap, ◌∙◌, ◌⊎◌, inl, inr}
+use Rattle.std.proofs.Common.{◌≡◌, ℕ, Some, refl, sym, ap, ◌∙◌, inl, inr}
 use Rattle.std.proofs.lemmas.Bool.{cases_eq}
 use Rattle.item_ring.specs.declared.block.Cell.{Cell}
 use Rattle.item_ring.specs.declared.block.Node.{Node}

@@ -1,19 +1,19 @@
 -- All that `Rings` keeps holds again after a call.
-use Rattle.std.proofs.Common.{◌≡◌, ℕ, ◌+◌, ◌-◌, ◌<◌, ◌≤◌, ◌^◌, Bool, true, false, cond, List, [], ◌∷◌, ◌++◌, length, Option, Some, None, is_some, refl, sym, ap, subst, ◌∙◌, ◌⊎◌, inl, inr, arith}
+use Rattle.std.proofs.Common.{◌≡◌, ℕ, ◌+◌, ◌<◌, ◌≤◌, ◌^◌, true, cond, List, [], ◌∷◌, ◌++◌, refl, sym, ap, subst, ◌∙◌, inl, inr, arith}
 use Rattle.std.specs.FinMap as map
 use Rattle.std.specs.FinMap.{FinMap, len-insert}
 use Rattle.std.specs.Ordering.{nat_cmp}
 use Rattle.std.specs.Cmp.{nat_cmp_total}
 use Rattle.item_ring.specs.declared.block.State.TheVariants.{Free, Loose, Linked, Head}
 use Rattle.item_ring.specs.Nodes.{Slots, cell_at, next_of, prev_of, ring_of, value_of, state_of, Edits, Spliced, Unspliced}
-use Rattle.item_ring.specs.RingLists.{IsIn, IsDistinct, list_in, without, with_after, with_before}
+use Rattle.item_ring.specs.RingLists.{IsIn, list_in, without}
 use Rattle.item_ring.specs.AreRings.{IsPath, IsRing, AreRings, IsChain, IsFree, IsStocked}
 use Rattle.item_ring.specs.Seen.{View}
 use Rattle.item_ring.specs.Turns.{linked_as, unlinked}
 use Rattle.item_ring.proofs.Apart.{head_free, linked_free, loose_free, head_state, head_used, loose_used, linked_used, Belongs}
 use Rattle.item_ring.proofs.Counts.{few}
-use Rattle.item_ring.proofs.Links.{IsTiedIn, tied_in, links_keep, here_belongs, ahead_belongs, here_apart, ahead_apart}
-use Rattle.item_ring.proofs.Lists.{last_of, in_put_new, path_prev, path_right, without_cut, appended}
+use Rattle.item_ring.proofs.Links.{IsTiedIn, tied_in, links_keep, here_belongs, here_apart, ahead_apart}
+use Rattle.item_ring.proofs.Lists.{last_of, in_put_new, path_prev, without_cut, appended}
 use Rattle.item_ring.proofs.Unlinks.{IsTakenOut, taken_out, unlinks_keep, prev_of_belongs}
 
 pub chain_same : (N N' : ℕ → ℕ) (first : ℕ) (js : List ℕ) → ((j : ℕ) → IsIn j js → N' j ≡ N j) → IsChain N first js → IsChain N' first js

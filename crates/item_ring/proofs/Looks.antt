@@ -1,10 +1,10 @@
 -- What the links of a node tell of its ring.
-use Rattle.std.proofs.Common.{◌≡◌, ℕ, Bool, true, false, cond, List, [], ◌∷◌, ◌++◌, Option, Some, None, unwrap_or, refl, sym, ap, subst, ◌∙◌, ◌⊎◌, inl, inr, eqb}
+use Rattle.std.proofs.Common.{◌≡◌, ℕ, cond, List, [], ◌∷◌, ◌++◌, Some, None, unwrap_or, refl, sym, ap, subst, ◌∙◌, inl, inr}
 use Rattle.std.proofs.lemmas.Bool.Decides.{eqb_tells}
 use Rattle.item_ring.specs.declared.block.State.TheVariants.{Linked}
 use Rattle.item_ring.specs.declared.rings.Rings.TheInside.{Inside}
 use Rattle.item_ring.specs.Nodes.{next_of, prev_of, ring_of, state_of}
-use Rattle.item_ring.specs.RingLists.{RingLists, IsIn, IsHead, IsLinked, IsLinkedIn, StandsBetween, list_in, front, back, unless_equal}
+use Rattle.item_ring.specs.RingLists.{RingLists, IsIn, IsHead, IsLinkedIn, StandsBetween, list_in, front, back, unless_equal}
 use Rattle.std.specs.Option.{option_or}
 use Rattle.item_ring.specs.AreRings.{IsPath, IsRing}
 use Rattle.item_ring.specs.RingsHold.{RingsHold, lists_of}

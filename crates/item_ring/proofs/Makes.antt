@@ -1,5 +1,5 @@
 -- Heads and members are made and ended, and all holds again.
-use Rattle.std.proofs.Common.{◌≡◌, ℕ, ◌+◌, ◌-◌, ◌<◌, ◌≤◌, ◌^◌, zero, suc, Bool, true, false, cond, List, [], ◌∷◌, ◌++◌, length, Option, Some, None, is_some, unwrap_or, refl, sym, ap, subst, ◌∙◌, ◌⊎◌, inl, inr, arith, eqb}
+use Rattle.std.proofs.Common.{◌≡◌, ℕ, ◌+◌, ◌-◌, ◌<◌, ◌≤◌, ◌^◌, suc, true, false, cond, List, [], ◌∷◌, length, Some, None, is_some, refl, sym, ap, subst, ◌∙◌, inl, inr, arith, eqb}
 use Rattle.std.proofs.lemmas.Bool.{cases_eq}
 use Rattle.std.proofs.lemmas.Bool.Decides.{eqb_tells}
 use Rattle.std.specs.FinMap as map
@@ -11,13 +11,13 @@ use Rattle.item_ring.specs.declared.block.State.{State}
 use Rattle.item_ring.specs.declared.block.State.TheVariants.{Free, Loose, Linked, Head}
 use Rattle.item_ring.specs.declared.rings.Rings.TheInside.{Inside}
 use Rattle.item_ring.specs.declared.seen.Seen.{Seen}
-use Rattle.item_ring.specs.Nodes.{Slots, cell_at, next_of, prev_of, ring_of, value_of, state_of, Edits}
-use Rattle.item_ring.specs.RingLists.{IsIn, IsDistinct, list_in, without}
-use Rattle.item_ring.specs.AreRings.{is_head, is_member, tail, IsPath, IsRing, IsListed, AreRings, IsChain, IsFree, IsStocked, Claimed}
+use Rattle.item_ring.specs.Nodes.{Slots, cell_at, next_of, ring_of, value_of, state_of, Edits}
+use Rattle.item_ring.specs.RingLists.{IsIn, list_in}
+use Rattle.item_ring.specs.AreRings.{is_head, is_member, tail, IsRing, AreRings, IsChain, IsFree, IsStocked, Claimed}
 use Rattle.item_ring.specs.RingsHold.{RingsHold}
 use Rattle.item_ring.specs.Seen.{View}
 use Rattle.item_ring.specs.Turns.{headed, membered, member_gone, head_gone}
-use Rattle.item_ring.proofs.Apart.{head_free, linked_free, loose_free, linked_loose, head_loose, head_linked, list_new, head_state, head_used, loose_used}
+use Rattle.item_ring.proofs.Apart.{head_free, loose_free, linked_loose, head_loose, head_linked, list_new, head_state, head_used, loose_used}
 use Rattle.item_ring.proofs.Holds.{chain_same}
 use Rattle.item_ring.proofs.Lists.{in_without, still_in}
 use Rattle.item_ring.proofs.Maps.{get_new, get_else, get_gone, get_left}

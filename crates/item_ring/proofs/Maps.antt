@@ -1,11 +1,10 @@
 -- What an insertion into a finite map of numbers tells.
-use Rattle.std.proofs.Common.{◌≡◌, ℕ, Bool, true, false, cond, List, [], Option, Some, None, refl, sym, ap, ◌∙◌, ◌⊎◌, inl, inr, arith, ltb, eqb}
+use Rattle.std.proofs.Common.{◌≡◌, ℕ, true, false, cond, Some, None, ap, ◌∙◌, arith}
 use Rattle.std.proofs.lemmas.Grind.{common_steps}
 use Rattle.std.specs.Ordering.{nat_cmp, eq_by_cmp}
 use Rattle.std.specs.Cmp.{nat_cmp_total}
 use Rattle.std.specs.FinMap as map
 use Rattle.std.specs.FinMap.{FinMap, get-insert, get-remove}
-use Rattle.item_ring.specs.RingLists.{list_in}
 
 tied : (k : ℕ) → eq_by_cmp nat_cmp k k ≡ true
 tied k = grind (arith, common_steps)

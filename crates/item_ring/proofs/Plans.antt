@@ -1,11 +1,11 @@
 -- Where a call ties a member in, or takes it out.
-use Rattle.std.proofs.Common.{◌≡◌, ℕ, ◌+◌, ◌<◌, arith, length, Bool, true, List, [], ◌∷◌, ◌++◌, refl, sym, ap, subst, ◌∙◌}
+use Rattle.std.proofs.Common.{◌≡◌, ℕ, ◌+◌, ◌<◌, arith, length, true, List, [], ◌∷◌, ◌++◌, refl, sym, ap, subst, ◌∙◌}
 use Rattle.std.specs.FinMap as map
 use Rattle.item_ring.specs.declared.block.State.TheVariants.{Linked}
 use Rattle.item_ring.specs.declared.rings.Rings.TheInside.{Inside}
 use Rattle.item_ring.specs.declared.seen.Seen.{Seen}
-use Rattle.item_ring.specs.Nodes.{Slots, cell_at, next_of, prev_of, ring_of, value_of, state_of, Edits, Spliced, Unspliced}
-use Rattle.item_ring.specs.RingLists.{IsIn, IsDistinct, IsLinked, IsLinkedIn, AreApart, ring, list_in, without, with_after, with_before}
+use Rattle.item_ring.specs.Nodes.{Slots, cell_at, prev_of, ring_of, value_of, state_of, Edits, Spliced, Unspliced}
+use Rattle.item_ring.specs.RingLists.{IsIn, IsDistinct, IsLinked, IsLinkedIn, AreApart, list_in, with_after, with_before}
 use Rattle.item_ring.specs.AreRings.{is_head}
 use Rattle.item_ring.specs.RingsHold.{RingsHold, lists_of}
 use Rattle.item_ring.specs.Turns.{linked_as, unlinked}

@@ -1,17 +1,15 @@
 -- A node is written to a slot, a slot is brought into use, and a block is added.
-use Rattle.std.proofs.Common.{◌≡◌, ℕ, zero, suc, ◌-◌, ◌+◌, ◌*◌, ◌/◌, ◌%◌, ◌<◌, ◌≤◌, List, [], ◌∷◌, ◌++◌, length, get_or, set, Option, Some, None, replicate, refl, sym, ap, subst, ◌∙◌, ◌⊎◌, inl, inr, arith}
+use Rattle.std.proofs.Common.{◌≡◌, ℕ, zero, suc, ◌-◌, ◌+◌, ◌*◌, ◌/◌, ◌%◌, ◌<◌, ◌≤◌, List, [], ◌∷◌, ◌++◌, length, get_or, set, Option, Some, None, replicate, refl, sym, ap, subst, ◌∙◌, inl, inr, arith}
 use Rattle.std.proofs.Common.{length-append}
-use mathlib.Core.Logic.{◌≢◌}
 use lib.ListN.{length-set, length-replicate}
 use Rattle.std.proofs.lemmas.List.{get_or-set_same, get_or-set_other, get_or_default, get_or_past, get_or_append_left, get_or-append_right}
 use Rattle.std.proofs.lemmas.Bool.{cases_eq, cases_lt}
-use denote.RawPtr.{Ptr}
 use Rattle.item_ring.specs.declared.block.Cell.{Cell}
 use Rattle.item_ring.specs.declared.block.Node.{Node}
 use Rattle.item_ring.specs.declared.cells.Link.{Link}
 use Rattle.item_ring.specs.Memory.{IsFilled}
 use Rattle.item_ring.specs.Row.{Row, place_of}
-use Rattle.item_ring.specs.Nodes.{Slots, no_row, node_at, address, cell_of, cell_at, LeadsTo, IsTied, HasNode, Writes, Edits, AreNodes}
+use Rattle.item_ring.specs.Nodes.{Slots, no_row, node_at, address, cell_of, cell_at, LeadsTo, IsTied, Writes, Edits, AreNodes}
 
 same_of_replicate : {X : Type 0} (d : X) (n i : ℕ) → get_or (replicate n d) i d ≡ d
 same_of_replicate d zero i = refl

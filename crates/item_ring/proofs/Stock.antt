@@ -1,23 +1,20 @@
 -- A node that is in no ring changes what it serves for, and the rings hold again.
-use Rattle.std.proofs.Common.{◌≡◌, ℕ, ◌+◌, ◌-◌, ◌<◌, ◌≤◌, ◌^◌, zero, suc, Bool, true, false, cond, List, [], ◌∷◌, ◌++◌, length, Option, Some, None, is_some, unwrap_or, refl, sym, ap, subst, ◌∙◌, ◌⊎◌, inl, inr, arith}
+use Rattle.std.proofs.Common.{◌≡◌, ℕ, ◌-◌, ◌<◌, ◌≤◌, suc, cond, List, [], ◌∷◌, length, Some, None, is_some, unwrap_or, refl, sym, ap, subst, ◌∙◌, ◌⊎◌, inl, inr, arith}
 use Rattle.std.proofs.lemmas.Bool.{cases_eq}
 use Rattle.std.specs.FinMap as map
-use Rattle.std.specs.FinMap.{FinMap, get-empty, len-empty, len-insert, len-remove}
+use Rattle.std.specs.FinMap.{get-empty, len-empty}
 use Rattle.std.specs.Ordering.{nat_cmp}
-use Rattle.std.specs.Cmp.{nat_cmp_total}
 use Rattle.item_ring.specs.declared.block.Cell.{Cell}
 use Rattle.item_ring.specs.declared.block.State.{State}
 use Rattle.item_ring.specs.declared.block.State.TheVariants.{Free, Loose, Linked, Head}
 use Rattle.item_ring.specs.Row.{Row}
 use Rattle.item_ring.specs.Nodes.{Slots, node_at, cell_of, cell_at, next_of, prev_of, ring_of, value_of, state_of, blank, Edits}
-use Rattle.item_ring.specs.RingLists.{IsIn, IsDistinct, list_in, without}
-use Rattle.item_ring.specs.AreRings.{is_head, is_member, tail, IsPath, IsRing, IsListed, AreRings, IsChain, IsFree, IsStocked, Claimed}
+use Rattle.item_ring.specs.RingLists.{IsIn, list_in}
+use Rattle.item_ring.specs.AreRings.{is_head, is_member, IsRing, AreRings, IsChain, IsFree, IsStocked, Claimed}
 use Rattle.item_ring.specs.Seen.{View, nothing_seen}
-use Rattle.item_ring.specs.Turns.{headed, membered, member_gone, head_gone}
-use Rattle.item_ring.proofs.Apart.{head_free, linked_free, loose_free, linked_loose, head_loose, head_linked, list_new, list_else}
+use Rattle.item_ring.proofs.Apart.{head_free, linked_free, loose_free}
 use Rattle.item_ring.proofs.Holds.{chain_same}
-use Rattle.item_ring.proofs.Lists.{path_same, in_without, still_in}
-use Rattle.item_ring.proofs.Maps.{get_new, get_else, get_gone, get_left}
+use Rattle.item_ring.proofs.Lists.{path_same}
 
 pub free_linked : Free ≡ Linked → ⊥
 free_linked e = cc

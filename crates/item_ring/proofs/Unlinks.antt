@@ -1,16 +1,16 @@
 -- A linked member is taken out, and the rings hold again.
-use Rattle.std.proofs.Common.{◌≡◌, ℕ, ◌+◌, ◌<◌, Bool, true, false, cond, List, [], ◌∷◌, ◌++◌, length, Option, Some, None, is_some, refl, sym, ap, subst, ◌∙◌, ◌⊎◌, inl, inr, arith}
+use Rattle.std.proofs.Common.{◌≡◌, ℕ, ◌+◌, ◌<◌, cond, List, [], ◌∷◌, ◌++◌, Some, None, is_some, refl, sym, ap, subst, ◌∙◌, inl, inr, arith}
 use Rattle.std.proofs.lemmas.Bool.{cases_eq}
 use Rattle.std.specs.FinMap as map
 use Rattle.item_ring.specs.declared.block.Cell.{Cell}
-use Rattle.item_ring.specs.declared.block.State.TheVariants.{Free, Loose, Linked, Head}
+use Rattle.item_ring.specs.declared.block.State.TheVariants.{Loose, Linked, Head}
 use Rattle.item_ring.specs.Nodes.{Slots, cell_at, next_of, prev_of, ring_of, value_of, state_of, Edits, Unspliced}
 use Rattle.item_ring.specs.RingLists.{IsIn, IsDistinct, list_in}
-use Rattle.item_ring.specs.AreRings.{is_head, is_member, IsPath, IsRing, IsListed, AreRings}
+use Rattle.item_ring.specs.AreRings.{is_head, is_member, IsPath, IsRing, AreRings}
 use Rattle.item_ring.specs.Seen.{View}
 use Rattle.item_ring.proofs.Apart.{head_loose, head_linked, linked_loose, linked_free, list_new, list_else, Belongs, strangers, in_ring}
 use Rattle.item_ring.proofs.Edits.{same_field}
-use Rattle.item_ring.proofs.Lists.{in_left, in_right, in_either, in_put, in_put_new, in_put_either, out_apart, distinct_out, distinct_left, distinct_right, distinct_between, distinct_push, length_put, last_of, first_of, last_in, first_in, path_left, path_right, path_prev, path_over, path_same, path_inner, rest_same, tail_to, tail_is, appended}
+use Rattle.item_ring.proofs.Lists.{in_left, in_right, in_put, in_put_new, in_put_either, out_apart, distinct_out, distinct_left, distinct_right, distinct_between, distinct_push, length_put, last_of, first_of, last_in, first_in, path_left, path_right, path_prev, path_over, path_same, path_inner, rest_same, tail_to, tail_is, appended}
 use Rattle.item_ring.proofs.Maps.{get_new, get_else}
 
 -- what the nodes of an `Unspliced` are once the ring is counted

@@ -1,10 +1,10 @@
 -- Nodes by their slots, and how the raw links between them lie.
-use Rattle.std.specs.Prelude.{◌≡◌, ◌≢◌, ℕ, ◌+◌, ◌*◌, ◌/◌, ◌%◌, ◌<◌, ◌≤◌, get_or, length, List, [], Option, Some, None}
+use Rattle.std.specs.Prelude.{◌≡◌, ◌≢◌, ℕ, ◌*◌, ◌/◌, ◌%◌, ◌<◌, ◌≤◌, get_or, length, List, [], Option, Some, None}
 use denote.RawPtr.{Ptr, null_ptr}
 use Rattle.item_ring.specs.declared.block.Cell.{Cell}
 use Rattle.item_ring.specs.declared.block.Node.{Node}
 use Rattle.item_ring.specs.declared.block.State.{State}
-use Rattle.item_ring.specs.declared.block.State.TheVariants.{Free, Loose, Linked, Head}
+use Rattle.item_ring.specs.declared.block.State.TheVariants.{Free, Loose, Linked}
 use Rattle.item_ring.specs.declared.cells.Link.{Link}
 use Rattle.item_ring.specs.Row.{Row, place_of}
 

@@ -1,5 +1,5 @@
 -- `allocate` makes places of a new block, and keeps the right to give it back. Assumes `Logic`.
-use Rattle.item_ring.proofs.Steps.{◌≡◌, refl, sym, ap, subst, true, false, ℕ, ◌*◌, ◌<◌, ◌^◌, arith, List, [], ◌∷◌, ◌++◌, length, replicate, length-replicate, lit<, Ura, Fn, Body, named, w64, ty_array, inst_fn, Val, vptr, vint, vstruct, vcons, vnil, SProp, ent, Lft, Share, Incl-trans, ftrue, flft, Memory, align, capped, capped_fits, Routine, Env, Calls, Loops, Wp, WpFn, Tables, after_seq, at_return, Logic, Fun, fact, tables_of, tables, ◌⊑◌, WpFn-mono, FmC, fm_of, Item, ⋆, ‵, raw, later, ◌⊛◌, at_ret, any_q, ◌$◌, ◌∵◌, !, qed, by, move, keep, use0, use1, use2, use3, split, join, await, fsplit, fsplit3, fjoin, feq_l, flt_i, flt_l, suffices, frame, done, whole, agg, live, vrt, in_variant, stop, fld, lit, of_opd, bin, size_word, align_word, and_then, no_more, first, exec, returns, enter, switches_on, alloc_all, pass_all, free_all, look_at, get, get_in, get_tag, is, sets, sets_last, lands_as, env, yes, RattleType, owns, Is, mem, hidden_shr, layout, Ptr, block_ptr, Bor, ShrRef, RefOf, usize, plain, nothing, owned, Struct, Struct-Makes, Tuple, calls_at, Clauses, Ended, closing, on_entry, Meets, triple_of, Triple, entered, says, needs, Stays, stay_dropped, walk_of, ends_at, Goes-dropped, walk_Meets, None, IfOk, Ok, Err, FitsInBlock, Al, second, Answer-typed, takes_key, Takes, at_takes, Answered, Takes-goes, Takes-gives, answers, El, R, elτ, uncapped, block_ty, block_size, block_align, P, as_written, Good, first_Good, word, word-Good, ok_of, err_of, after, head, arm_body, places, Ln, Cr, Mark, size, mark, mark_made, link_made, triple_val, triple_made, of_room}
+use Rattle.item_ring.proofs.Steps.{◌≡◌, refl, sym, ap, subst, true, false, ℕ, ◌*◌, ◌<◌, ◌^◌, arith, List, [], ◌∷◌, ◌++◌, length, replicate, length-replicate, lit<, Ura, Fn, Body, named, w64, ty_array, inst_fn, Val, vptr, vint, vstruct, vcons, vnil, SProp, ent, Lft, Share, Incl-trans, ftrue, flft, Memory, align, capped, capped_fits, Routine, Env, Calls, Loops, Wp, WpFn, Tables, after_seq, at_return, Logic, Fun, fact, tables_of, tables, ◌⊑◌, WpFn-mono, FmC, fm_of, Item, ⋆, ‵, raw, later, ◌⊛◌, at_ret, any_q, ◌$◌, ◌∵◌, !, qed, by, move, keep, use0, use1, use2, use3, split, join, await, fsplit, fsplit3, fjoin, feq_l, flt_i, flt_l, suffices, frame, done, whole, agg, live, vrt, in_variant, stop, fld, lit, of_opd, bin, size_word, align_word, and_then, no_more, first, exec, returns, enter, switches_on, alloc_all, pass_all, free_all, look_at, get, get_in, get_tag, is, sets, sets_last, lands_as, env, yes, RattleType, owns, Is, hidden_shr, layout, Ptr, block_ptr, Bor, ShrRef, RefOf, usize, plain, nothing, owned, Struct, Struct-Makes, Tuple, calls_at, Clauses, Ended, closing, on_entry, Meets, triple_of, Triple, entered, says, needs, Stays, stay_dropped, walk_of, ends_at, Goes-dropped, walk_Meets, None, IfOk, Ok, Err, FitsInBlock, Al, second, Answer-typed, takes_key, Takes, at_takes, Answered, Takes-goes, Takes-gives, answers, El, R, elτ, uncapped, block_ty, block_size, block_align, P, as_written, Good, first_Good, word, word-Good, ok_of, err_of, after, head, arm_body, places, Ln, Cr, Mark, size, mark, mark_made, link_made, triple_val, triple_made, of_room}
 use denote.Struct.Declared as Declared
 use Rattle.core.proofs.slots.Leases.{args}
 use Rattle.core.specs.contracts.result.Result as RS

@@ -1,5 +1,5 @@
 -- `deallocate` makes the block of its places, and hands it back with the allocator's token. Assumes `Logic`.
-use Rattle.item_ring.proofs.Steps.{◌≡◌, refl, sym, ap, subst, ◌∙◌, ℕ, ◌*◌, ◌<◌, ◌^◌, arith, List, [], ◌∷◌, ◌++◌, length, Ura, Fn, named, w64, ty_unit, ty_array, inst_fn, Val, vptr, vint, vunit, SProp, ent, never, id⊢, Lft, Share, Incl-trans, ftrue, froom, flft, Memory, align, capped, capped_fits, Routine, Env, Calls, Loops, WpFn, Tables, Logic, Fun, fact, tables_of, tables, ◌⊑◌, WpFn-mono, FmC, fm_of, Item, ⋆, ‵, raw, given, later, ◌⊛◌, at_ret, ◌$◌, ◌∵◌, !, qed, by, move, keep, use1, split, join, group, rewrite, await, learn, fsplit, fsplit3, fjoin, feq_i, feq_l, flt_l, suffices, done, whole, sub, stop, fld, unit_lit, of_opd, bin, size_word, align_word, and_then, no_more, first, blocks, exec, returns, enter, alloc_all, pass_all, free_all, look_at, get, get_in, is, sets, lands_last, env, yes, no, RattleType, owns, mem, hidden_shr, Ptr, ptr_val, in_a_block, Bor, ShrRef, RefOf, usize, plain, nothing, calls_at_last, Clauses, Ended, closing, on_entry, Meets, triple_of, Triple, entered, needs, Stays, stay_dropped, walk_of, ends_at, Goes-dropped, walk_Meets, Al, second, token, gives_key, Gives, at_gives, Gives-goes, Gives-Gives, El, R, elτ, uncapped, block_ty, block_size, block_align, P, as_raw, Good, word, word-Good, after, cells_own, deed_owns, Ln, Cr, size, mark, mark_had, link_had, to_room}
+use Rattle.item_ring.proofs.Steps.{◌≡◌, refl, sym, ap, subst, ◌∙◌, ℕ, ◌*◌, ◌<◌, ◌^◌, arith, List, [], ◌∷◌, ◌++◌, length, Ura, Fn, named, w64, ty_unit, ty_array, inst_fn, Val, vptr, vint, vunit, SProp, ent, never, id⊢, Lft, Share, Incl-trans, ftrue, froom, flft, Memory, align, capped, capped_fits, Routine, Env, Calls, Loops, WpFn, Tables, Logic, Fun, fact, tables_of, tables, ◌⊑◌, WpFn-mono, FmC, fm_of, Item, ⋆, ‵, raw, given, later, ◌⊛◌, at_ret, ◌$◌, ◌∵◌, !, qed, by, move, keep, use1, split, join, group, rewrite, await, learn, fsplit, fsplit3, fjoin, feq_i, feq_l, flt_l, suffices, done, whole, sub, stop, fld, unit_lit, of_opd, bin, size_word, align_word, and_then, no_more, first, blocks, exec, returns, enter, alloc_all, pass_all, free_all, look_at, get, get_in, is, sets, lands_last, env, yes, no, RattleType, owns, hidden_shr, Ptr, ptr_val, in_a_block, Bor, ShrRef, RefOf, usize, plain, nothing, calls_at_last, Clauses, Ended, closing, on_entry, Meets, triple_of, Triple, entered, needs, Stays, stay_dropped, walk_of, ends_at, Goes-dropped, walk_Meets, Al, second, token, gives_key, Gives, at_gives, Gives-goes, Gives-Gives, El, R, elτ, uncapped, block_ty, block_size, block_align, P, as_raw, Good, word, word-Good, after, cells_own, deed_owns, Ln, Cr, size, mark, mark_had, link_had, to_room}
 use Rattle.core.proofs.slots.Leases.{args}
 use Rattle.item_ring.specs.contracts.cells.Deed as D-type
 use Rattle.item_ring.specs.contracts.cells.deallocate as F

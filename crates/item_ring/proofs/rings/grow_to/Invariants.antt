@@ -1,4 +1,4 @@
-use Rattle.std.proofs.Common.{◌≡◌, ℕ, ◌-◌, ◌+◌, ◌≤◌, ◌^◌}
+use Rattle.std.proofs.Common.{◌≡◌, ℕ, ◌-◌, ◌≤◌, ◌^◌}
 use Rattle.item_ring.specs.Nodes.{cell_at}
 use Rattle.item_ring.proofs.rings.grow_to.Given as goal
 

@@ -1,8 +1,8 @@
 -- The ring keeps `mid`, and there is one member more at most.
-use Rattle.std.proofs.Common.{◌≡◌, ◌+◌, ◌≤◌, ◌∷◌, ◌++◌, [], arith, inl, inr, refl, sym, subst, ap, ◌∙◌}
+use Rattle.std.proofs.Common.{◌∷◌, ◌++◌, [], arith, inl, refl, sym, subst, ap}
 use Rattle.std.specs.FinMap as map
-use Rattle.item_ring.specs.RingLists.{IsIn, IsLinkedIn, ring, with_after}
-use Rattle.item_ring.proofs.Callers.{linked_on, linked_same, one_more, in_with_after}
+use Rattle.item_ring.specs.RingLists.{IsIn, ring}
+use Rattle.item_ring.proofs.Callers.{linked_on, linked_same, one_more}
 use Rattle.item_ring.proofs.Lists.{in_left}
 use Rattle.item_ring.proofs.tests.add_back.Goals as goal
 

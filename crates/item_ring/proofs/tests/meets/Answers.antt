@@ -1,10 +1,7 @@
 -- Both are in the ring.
-use Rattle.std.proofs.Common.{◌≡◌, ◌+◌, ◌≤◌, ◌∷◌, ◌++◌, [], true, is_some, arith, inl, inr, refl, sym, subst, ap, ◌∙◌}
-use Rattle.std.specs.FinMap as map
-use Rattle.item_ring.specs.RingLists.{IsIn, IsLinkedIn, IsHead, ring, with_before, without}
-use Rattle.item_ring.proofs.Apart.{list_new}
-use Rattle.item_ring.proofs.Maps.{get_new}
-use Rattle.item_ring.proofs.Callers.{linked_on, linked_same, new_with_before, in_with_before}
+use Rattle.std.proofs.Common.{inl, refl, sym, subst}
+use Rattle.item_ring.specs.RingLists.{IsIn, ring, with_before}
+use Rattle.item_ring.proofs.Callers.{linked_on, new_with_before, in_with_before}
 use Rattle.item_ring.proofs.tests.meets.Goals as goal
 
 pub insert_before-requires-clause-at : goal.insert_before-requires-clause-at

@@ -1,10 +1,9 @@
 -- The member is alone in front, and then loose.
-use Rattle.std.proofs.Common.{◌≡◌, ◌+◌, ◌≤◌, ◌∷◌, ◌++◌, [], true, is_some, arith, inl, inr, refl, sym, subst, ap, ◌∙◌}
+use Rattle.std.proofs.Common.{◌∷◌, is_some, inl, inr, refl, sym, subst, ap, ◌∙◌}
 use Rattle.std.specs.FinMap as map
-use Rattle.item_ring.specs.RingLists.{IsIn, IsLinkedIn, IsHead, ring, with_before, without}
-use Rattle.item_ring.proofs.Apart.{list_new}
+use Rattle.item_ring.specs.RingLists.{IsIn, ring, without}
 use Rattle.item_ring.proofs.Maps.{get_new}
-use Rattle.item_ring.proofs.Callers.{linked_on, linked_same, new_with_before, in_with_before}
+use Rattle.item_ring.proofs.Callers.{linked_on}
 use Rattle.item_ring.proofs.tests.passes.Goals as goal
 
 pub is_linked-linked-requires : goal.is_linked-linked-requires

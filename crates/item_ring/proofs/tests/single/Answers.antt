@@ -1,13 +1,11 @@
 -- The member is made behind the head.
-use Rattle.std.proofs.Common.{◌≡◌, ◌+◌, ◌≤◌, ◌∷◌, ◌++◌, [], true, is_some, arith, inl, inr, refl, sym, subst, ap, ◌∙◌}
+use Rattle.std.proofs.Common.{[], is_some, arith, inl, refl, sym, subst, ap, ◌∙◌}
 use Rattle.std.specs.FinMap as map
-use Rattle.item_ring.specs.RingLists.{IsIn, IsLinkedIn, IsHead, ring, with_before, without}
-use Rattle.item_ring.proofs.Apart.{list_new}
+use Rattle.item_ring.specs.RingLists.{IsIn}
 use Rattle.item_ring.proofs.Maps.{get_new}
 use Rattle.std.specs.FinMap.{len-empty}
 use Rattle.std.specs.Ordering.{nat_cmp}
-use Rattle.std.proofs.Common.{List, ℕ, ◌<◌}
-use Rattle.item_ring.proofs.Callers.{linked_on, linked_same, new_with_before, in_with_before}
+use Rattle.std.proofs.Common.{List, ℕ}
 use Rattle.item_ring.proofs.tests.single.Goals as goal
 
 pub add_head-requires : goal.add_head-requires

@@ -1,5 +1,5 @@
 -- `get` follows a link to a value that the places lend. Assumes `Logic`.
-use Rattle.item_ring.proofs.Steps.{◌≡◌, refl, sym, ap, subst, ◌∙◌, ℕ, ◌+◌, ◌*◌, ◌<◌, ◌^◌, add_comm, List, [], ◌∷◌, ◌++◌, get_or, Ura, full_share, Fn, named, w64, inst_fn, Val, vptr, vint, SProp, ent, never, id⊢, Lft, Share, ftrue, fat, flft, Env, Calls, Loops, WpFn, Tables, Logic, fact, tables_of, tables, WpFn-mono, Item, ⋆, ‵, ◌⊛◌, at_ret, ◌$◌, ◌∵◌, !, qed, by, move, keep, drop, use1, split, join, rewrite, fsplit, fjoin, feq_i, feq_l, flt_l, suffices, frame, done, whole, sub, stop, fld, of_opd, addr, first, blocks, exec, returns, enter, alloc_all, pass_all, free_all, look_at, get, get_in, through, sets, sets_last, env, take_at, give_at, yes, no, owns, mem, hidden_shr, layout, Ptr, block_ptr, in_a_block, ◌+ₚ◌, Bor, ShrRef, RefOf, usize, plain, hide, unhide, nothing, spared, Clauses, Ended, closing, on_entry, Meets, triple_of, entered, run_framed, says, needs, Stays, stay_dropped, walk_of, ends_at, Goes-dropped, walk_Meets, Some, None, El, R, el_x, word, word-Good, after, IsFilled, place_lent, cells_lent, Ln, Cr, size, Place, link_had, filled_within, place_seen}
+use Rattle.item_ring.proofs.Steps.{◌≡◌, refl, sym, ap, subst, ◌∙◌, ℕ, ◌+◌, ◌*◌, ◌<◌, ◌^◌, add_comm, List, [], ◌∷◌, ◌++◌, get_or, Ura, full_share, Fn, named, w64, inst_fn, Val, vptr, vint, SProp, ent, never, id⊢, Lft, Share, ftrue, fat, flft, Env, Calls, Loops, WpFn, Tables, Logic, fact, tables_of, tables, WpFn-mono, Item, ⋆, ‵, ◌⊛◌, at_ret, ◌$◌, ◌∵◌, !, qed, by, move, keep, drop, use1, split, join, rewrite, fsplit, fjoin, feq_i, feq_l, flt_l, suffices, frame, done, whole, sub, stop, fld, of_opd, addr, first, blocks, exec, returns, enter, alloc_all, pass_all, free_all, look_at, get, get_in, through, sets, sets_last, env, take_at, give_at, yes, no, owns, hidden_shr, layout, Ptr, block_ptr, in_a_block, ◌+ₚ◌, Bor, ShrRef, RefOf, usize, plain, hide, unhide, nothing, spared, Clauses, Ended, closing, on_entry, Meets, triple_of, entered, run_framed, says, needs, Stays, stay_dropped, walk_of, ends_at, Goes-dropped, walk_Meets, Some, None, El, R, el_x, word, word-Good, after, IsFilled, place_lent, cells_lent, Ln, Cr, size, Place, link_had, filled_within, place_seen}
 use Rattle.core.proofs.mem.Param.{args}
 use Rattle.item_ring.specs.contracts.cells.Cells.get.Key.{name as #self}
 use Rattle.item_ring.proofs.cells.Cells.get.Statement as stated

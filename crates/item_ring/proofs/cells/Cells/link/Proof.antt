@@ -1,5 +1,5 @@
 -- `link` computes the address of a place. Assumes `Logic`.
-use Rattle.item_ring.proofs.Steps.{◌≡◌, refl, sym, ap, subst, ◌∙◌, ℕ, ◌+◌, ◌*◌, ◌<◌, ◌^◌, arith, add_comm, List, [], ◌∷◌, ◌++◌, length, Ura, full_share, Fn, named, w64, inst_fn, Val, vptr, vint, SProp, ent, never, id⊢, Lft, Share, ftrue, fat, flft, Env, Calls, Loops, WpFn, Tables, Logic, fact, tables_of, tables, WpFn-mono, Item, ⋆, ‵, ◌⊛◌, at_ret, ◌$◌, ◌∵◌, !, qed, by, move, keep, drop, split, join, rewrite, fsplit, fjoin, feq_l, flt_l, suffices, frame, done, whole, sub, agg, stop, fld, of_opd, bin, size_lit, and_then, no_more, first, blocks, exec, returns, enter, alloc_all, pass_all, free_all, look_at, get, get_in, sets, sets_last, env, take_at, give_at, yes, no, owns, mem, hidden_shr, layout, Ptr, block_ptr, in_a_block, ◌+ₚ◌, Bor, ShrRef, RefOf, usize, plain, unhide, nothing, spared, Clauses, Ended, closing, on_entry, Meets, triple_of, entered, run_framed, says, needs, Stays, stay_dropped, walk_of, ends_at, Goes-dropped, walk_Meets, El, R, times_below, one_below, word, word-Good, after, cells_lent, Ln, Cr, size, link_had, link_made}
+use Rattle.item_ring.proofs.Steps.{◌≡◌, refl, sym, ap, subst, ◌∙◌, ℕ, ◌+◌, ◌*◌, ◌<◌, ◌^◌, arith, add_comm, List, [], ◌∷◌, ◌++◌, length, Ura, full_share, Fn, named, w64, inst_fn, Val, vptr, vint, SProp, ent, never, id⊢, Lft, Share, ftrue, fat, flft, Env, Calls, Loops, WpFn, Tables, Logic, fact, tables_of, tables, WpFn-mono, Item, ⋆, ‵, ◌⊛◌, at_ret, ◌$◌, ◌∵◌, !, qed, by, move, keep, drop, split, join, rewrite, fsplit, fjoin, feq_l, flt_l, suffices, frame, done, whole, sub, agg, stop, fld, of_opd, bin, size_lit, and_then, no_more, first, blocks, exec, returns, enter, alloc_all, pass_all, free_all, look_at, get, get_in, sets, sets_last, env, take_at, give_at, yes, no, owns, hidden_shr, layout, Ptr, block_ptr, in_a_block, ◌+ₚ◌, Bor, ShrRef, RefOf, usize, plain, unhide, nothing, spared, Clauses, Ended, closing, on_entry, Meets, triple_of, entered, run_framed, says, needs, Stays, stay_dropped, walk_of, ends_at, Goes-dropped, walk_Meets, El, R, times_below, one_below, word, word-Good, after, cells_lent, Ln, Cr, size, link_had, link_made}
 use Rattle.core.proofs.mem.Param.{args}
 use Rattle.item_ring.specs.contracts.cells.Cells.link.Key.{name as #self}
 use Rattle.item_ring.proofs.cells.Cells.link.Statement as stated

@@ -1,5 +1,5 @@
 -- `write` stores a value where the link leads. Assumes `Logic`.
-use Rattle.item_ring.proofs.Steps.{◌≡◌, refl, sym, ap, subst, ◌∙◌, ℕ, ◌+◌, ◌*◌, ◌<◌, ◌^◌, add_comm, List, [], ◌∷◌, ◌++◌, length, set, get_or, length-set, Ura, full_share, Fn, named, w64, inst_fn, Val, vptr, vint, vunit, SProp, ent, never, id⊢, Lft, GName, Share, ftrue, fat, froom, flft, fobs, fbor, Env, Calls, Loops, WpFn, Tables, Logic, fact, tables_of, tables, WpFn-mono, Item, ⋆, ‵, ◌⊛◌, at_ret, ◌$◌, ◌∵◌, !, qed, by, move, keep, use1, use2, split, join, rewrite, fsplit, fsplit3, fjoin, fjoin3, feq_i, feq_l, flt_i, flt_l, suffices, frame, done, whole, sub, init, stop, fld, unit_lit, of_opd, assigns_last, first, blocks, exec, returns, enter, alloc_all, pass_all, free_all, look_at, get, get_in, through, sets, env, take_at, give_at, Borrowed, yes, no, owns, mem, layout, Ptr, block_ptr, in_a_block, ◌+ₚ◌, MutBor, MutRef, RefMutOf, usize, unit, plain, nothing, opens, closes, spared, Clauses, Ended, closing, on_entry, Meets, triple_of, entered, run_framed, says, needs, Stays, stay_dropped, stay_ref, walk_of, ends_at, Goes-dropped, Goes-ref, walk_Meets, Some, None, El, R, el_x, elτ, Good, word, word-Good, after, place, places, cells_own, Ln, Cr, size, mark, link_had, tells, value_in, blanked, Others, place_out, place_in}
+use Rattle.item_ring.proofs.Steps.{◌≡◌, refl, sym, ap, subst, ◌∙◌, ℕ, ◌+◌, ◌*◌, ◌<◌, ◌^◌, add_comm, List, [], ◌∷◌, ◌++◌, length, set, get_or, length-set, Ura, full_share, Fn, named, w64, inst_fn, Val, vptr, vint, vunit, SProp, ent, never, id⊢, Lft, GName, Share, ftrue, fat, froom, flft, fobs, fbor, Env, Calls, Loops, WpFn, Tables, Logic, fact, tables_of, tables, WpFn-mono, Item, ⋆, ‵, ◌⊛◌, at_ret, ◌$◌, ◌∵◌, !, qed, by, move, keep, use1, use2, split, join, rewrite, fsplit, fsplit3, fjoin, fjoin3, feq_i, feq_l, flt_i, flt_l, suffices, frame, done, whole, sub, init, stop, fld, unit_lit, of_opd, assigns_last, first, blocks, exec, returns, enter, alloc_all, pass_all, free_all, look_at, get, get_in, through, sets, env, take_at, give_at, Borrowed, yes, no, owns, mem, layout, Ptr, block_ptr, in_a_block, ◌+ₚ◌, MutBor, MutRef, RefMutOf, usize, unit, plain, nothing, opens, closes, spared, Clauses, Ended, closing, on_entry, Meets, triple_of, entered, run_framed, says, needs, Stays, stay_dropped, stay_ref, walk_of, ends_at, Goes-dropped, Goes-ref, walk_Meets, Some, None, El, R, el_x, elτ, Good, word, word-Good, after, place, places, cells_own, Ln, Cr, size, link_had, tells, value_in, blanked, Others, place_out, place_in}
 use Rattle.core.proofs.mem.Param.{args}
 use Rattle.item_ring.specs.contracts.cells.Cells.write.Key.{name as #self}
 use Rattle.item_ring.proofs.cells.Cells.write.Statement as stated

@@ -1,4 +1,4 @@
-use Rattle.std.proofs.Common.{refl, sym, subst, ap, ◌∙◌, List, ◌+◌, ◌≡◌, ℕ}
+use Rattle.std.proofs.Common.{refl, sym, subst, ap, ◌∙◌, List, ◌+◌}
 use Rattle.item_ring.specs.AreNodes.{slots_of}
 use Rattle.item_ring.specs.Row.{Row}
 use Rattle.item_ring.specs.Nodes.{Slots, AreNodes, cell_at, node_at, cell_of}

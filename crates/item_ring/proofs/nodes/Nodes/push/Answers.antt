@@ -1,7 +1,7 @@
 -- The slot after the last gets a node that is tied to itself.
-use Rattle.std.proofs.Common.{refl, sym, subst, set, ◌≡◌, ◌<◌, ◌∙◌, ◌/◌, ◌+◌}
+use Rattle.std.proofs.Common.{refl, sym, subst, set, ◌<◌, ◌∙◌, ◌/◌, ◌+◌}
 use Rattle.item_ring.specs.AreNodes.{slots_of}
-use Rattle.item_ring.specs.Nodes.{Slots, Edits, address}
+use Rattle.item_ring.specs.Nodes.{Slots, Edits}
 use Rattle.item_ring.proofs.Rows.{push_keeps, push_edits, place_is}
 use Rattle.item_ring.proofs.nodes.Nodes.push.Goals as goal
 

@@ -1,5 +1,5 @@
 -- The neighbour, or else the other end of the ring.
-use Rattle.std.proofs.Common.{Some, unwrap_or, sym, subst, ap, ◌∙◌}
+use Rattle.std.proofs.Common.{Some, unwrap_or, ap, ◌∙◌}
 use Rattle.std.specs.Option.{option_or}
 use Rattle.item_ring.specs.RingLists.{ring, front}
 use Rattle.item_ring.proofs.Looks.{cyclic_front, stands_linked}

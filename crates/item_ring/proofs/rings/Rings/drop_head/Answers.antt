@@ -1,7 +1,7 @@
 -- The slot goes to the front of the chain.
 use Rattle.std.proofs.Common.{◌≡◌, [], sym, subst}
 use Rattle.item_ring.specs.RingsHold.{lists_of}
-use Rattle.item_ring.specs.RingLists.{IsHead, ring, list_in}
+use Rattle.item_ring.specs.RingLists.{IsHead, ring}
 use Rattle.item_ring.proofs.Apart.{head_used}
 use Rattle.item_ring.proofs.Makes.{head_drop, next_used}
 use Rattle.item_ring.proofs.Plans.{apart_now}

@@ -1,9 +1,9 @@
 -- The member stands right behind `at`.
-use Rattle.std.proofs.Common.{◌≡◌, ◌+◌, ◌<◌, ◌^◌, true, refl, sym, subst, ap, ◌∙◌, ◌++◌, ◌∷◌, []}
+use Rattle.std.proofs.Common.{◌≡◌, ◌+◌, ◌<◌, ◌^◌, true, refl, sym, subst, ap, ◌∙◌}
 use Rattle.std.specs.FinMap as map
 use Rattle.item_ring.specs.declared.block.Cell.{Cell}
 use Rattle.item_ring.specs.RingsHold.{lists_of}
-use Rattle.item_ring.specs.RingLists.{IsHead, IsLoose, IsLinked, IsLinkedIn, IsIn, AreApart, list_in, ring, with_after, with_before, without}
+use Rattle.item_ring.specs.RingLists.{IsLoose, IsLinked, IsLinkedIn, IsIn, list_in, ring, with_after}
 use Rattle.item_ring.proofs.Plans.{plan_after, plan_ready, plan_holds, apart_now, is_linked, home_is, home_key, at_used}
 use Rattle.item_ring.proofs.Apart.{head_used}
 use Rattle.item_ring.proofs.rings.Rings.insert_after.Goals as goal

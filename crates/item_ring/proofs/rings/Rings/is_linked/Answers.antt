@@ -1,5 +1,5 @@
 -- The state of the node says it.
-use Rattle.std.proofs.Common.{◌≡◌, true, false, refl, sym, subst, ap, ◌∙◌}
+use Rattle.std.proofs.Common.{◌≡◌, true, false, sym, subst, ap, ◌∙◌}
 use Rattle.item_ring.specs.declared.block.Cell.{Cell}
 use Rattle.item_ring.specs.RingsHold.{lists_of}
 use Rattle.item_ring.specs.RingLists.{IsLinked, AreApart}

@@ -1,10 +1,9 @@
 -- The count that the head keeps is that of its ring.
-use Rattle.std.proofs.Common.{refl, sym, subst, ap, ◌∙◌, ◌≡◌, true}
+use Rattle.std.proofs.Common.{refl, sym, subst, ◌≡◌, true}
 use Rattle.std.specs.FinMap as map
 use Rattle.item_ring.specs.RingsHold.{lists_of}
 use Rattle.item_ring.specs.RingLists.{IsHead, AreApart}
 use Rattle.item_ring.proofs.Apart.{head_used, apart_all}
-use Rattle.item_ring.proofs.Links.{links_keep}
 use Rattle.item_ring.proofs.rings.Rings.len.Goals as goal
 
 pub get-requires : goal.get-requires

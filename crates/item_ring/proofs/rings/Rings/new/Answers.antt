@@ -1,5 +1,4 @@
 -- No slot is in use.
-use Rattle.std.proofs.Common.{refl}
 use Rattle.item_ring.proofs.Stock.{holds_nothing}
 use Rattle.item_ring.specs.RingsHold.{RingsHold}
 use Rattle.item_ring.proofs.Plans.{apart_now}

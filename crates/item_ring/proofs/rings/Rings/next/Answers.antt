@@ -1,10 +1,9 @@
 -- The member's own link leads there, or to its head.
-use Rattle.std.proofs.Common.{◌≡◌, ℕ, List, true, refl, sym, subst, ap, ◌∙◌}
+use Rattle.std.proofs.Common.{sym, subst, ap, ◌∙◌}
 use Rattle.item_ring.specs.declared.block.Cell.{Cell}
 use Rattle.item_ring.specs.RingsHold.{lists_of}
-use Rattle.item_ring.specs.RingLists.{IsHead, IsLinked, IsLinkedIn, StandsBetween, AreApart, ring, front, back, unless_equal}
-use Rattle.item_ring.proofs.Apart.{head_used}
-use Rattle.item_ring.proofs.Looks.{first_look, last_look, stands_next, stands_prev, home_of}
+use Rattle.item_ring.specs.RingLists.{IsLinked, StandsBetween, AreApart, unless_equal}
+use Rattle.item_ring.proofs.Looks.{stands_next}
 use Rattle.item_ring.proofs.Plans.{is_linked, at_used, apart_now}
 use Rattle.item_ring.proofs.rings.Rings.next.Goals as goal
 

@@ -1,9 +1,8 @@
 -- The member stands behind the last, which the head's own link leads to.
-use Rattle.std.proofs.Common.{◌≡◌, ◌+◌, ◌<◌, ◌^◌, true, refl, sym, subst, ap, ◌∙◌, ◌++◌, ◌∷◌, []}
+use Rattle.std.proofs.Common.{◌≡◌, ◌+◌, ◌<◌, ◌^◌, true, sym, subst, ap}
 use Rattle.std.specs.FinMap as map
 use Rattle.item_ring.specs.declared.block.Cell.{Cell}
-use Rattle.item_ring.specs.RingsHold.{lists_of}
-use Rattle.item_ring.specs.RingLists.{IsHead, IsLoose, IsLinked, IsLinkedIn, IsIn, AreApart, list_in, ring, with_after, with_before, without}
+use Rattle.item_ring.specs.RingLists.{IsHead, IsLoose, IsIn}
 use Rattle.item_ring.proofs.Plans.{plan_back, plan_ready, plan_holds, apart_now}
 use Rattle.item_ring.proofs.rings.Rings.push_back.Goals as goal
 

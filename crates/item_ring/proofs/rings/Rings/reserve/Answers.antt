@@ -1,5 +1,5 @@
 -- There are as many slots as are in use and spare.
-use Rattle.std.proofs.Common.{◌+◌, ◌≤◌, arith, sym, subst, ap}
+use Rattle.std.proofs.Common.{◌+◌, ◌≤◌, arith, sym, subst}
 use Rattle.std.specs.FinMap as map
 use Rattle.item_ring.proofs.Makes.{IsGrown, grown_holds, reserve_holds}
 use Rattle.item_ring.proofs.Plans.{apart_now}

@@ -1,8 +1,7 @@
 -- A member's node keeps its tag.
-use Rattle.std.proofs.Common.{◌≡◌, true, Some, refl, sym, subst, ap, ◌∙◌}
+use Rattle.std.proofs.Common.{◌≡◌, true, Some, sym, subst, ap, ◌∙◌}
 use Rattle.std.specs.FinMap as map
 use Rattle.item_ring.specs.declared.block.Cell.{Cell}
-use Rattle.item_ring.specs.RingsHold.{lists_of}
 use Rattle.item_ring.proofs.Apart.{tag_is, tagged_used}
 use Rattle.item_ring.proofs.rings.Rings.tag.Goals as goal
 

@@ -1,9 +1,9 @@
 -- The member's own links lead to the two that are tied to each other.
-use Rattle.std.proofs.Common.{◌≡◌, ◌+◌, ◌<◌, arith, true, refl, sym, subst, ap, ◌∙◌, ◌++◌, ◌∷◌, []}
+use Rattle.std.proofs.Common.{◌≡◌, ◌<◌, arith, true, sym, subst, ap, ◌∙◌}
 use Rattle.std.specs.FinMap as map
 use Rattle.item_ring.specs.declared.block.Cell.{Cell}
 use Rattle.item_ring.specs.RingsHold.{lists_of}
-use Rattle.item_ring.specs.RingLists.{IsHead, IsLoose, IsLinked, IsLinkedIn, IsIn, AreApart, list_in, ring, with_after, with_before, without}
+use Rattle.item_ring.specs.RingLists.{IsLinked, IsLinkedIn, list_in, ring, without}
 use Rattle.item_ring.proofs.Plans.{out_counted, out_holds, apart_now, is_linked, home_is, home_key, at_used}
 use Rattle.item_ring.proofs.Apart.{head_used}
 use Rattle.item_ring.proofs.rings.Rings.unlink.Goals as goal

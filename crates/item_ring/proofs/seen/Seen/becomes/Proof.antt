@@ -1,5 +1,5 @@
 -- `becomes` changes what is seen, and nothing else. Assumes `Logic`.
-use Rattle.item_ring.proofs.Steps.{refl, List, [], ◌∷◌, named, Val, vptr, vunit, ftrue, flft, ‵, ◌⊛◌, ◌$◌, ◌∵◌, !, qed, move, keep, split, join, fsplit, fsplit3, fjoin, fjoin3, feq_i, suffices, frame, done, unit_lit, of_opd, returns, enter, alloc_all, pass_all, free_all, look_at, sets, yes, owns, mem, plain, nothing, opens, closes, says, Stays, stay_dropped, stay_ref, walk_of, ends_at, Goes-dropped, Goes-ref, mark}
+use Rattle.item_ring.proofs.Steps.{refl, List, [], ◌∷◌, named, Val, vptr, vunit, ftrue, flft, ‵, ◌⊛◌, ◌$◌, ◌∵◌, !, qed, move, keep, split, join, fsplit, fsplit3, fjoin, fjoin3, feq_i, suffices, frame, done, unit_lit, of_opd, returns, enter, alloc_all, pass_all, free_all, look_at, sets, yes, owns, plain, nothing, opens, closes, says, Stays, stay_dropped, stay_ref, walk_of, ends_at, Goes-dropped, Goes-ref}
 use Rattle.std.proofs.raw_atomic.Walks.{proved}
 use denote.Builtin.{u32}
 use denote.Plain.{uint_vals, uint_Tells}

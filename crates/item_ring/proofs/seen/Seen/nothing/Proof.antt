@@ -1,5 +1,5 @@
 -- `nothing` makes the empty struct, with what its clause names. Assumes `Logic`.
-use Rattle.item_ring.proofs.Steps.{refl, [], ◌∷◌, vstruct, vnil, ftrue, ‵, raw, ◌⊛◌, ◌$◌, ◌∵◌, !, qed, move, keep, use0, split, fjoin, suffices, done, agg, and_then, no_more, returns, enter, alloc_all, pass_all, free_all, look_at, get, sets, RattleType, mem, nothing, Struct, Triple, says, walk_of, ends_at, mark}
+use Rattle.item_ring.proofs.Steps.{refl, [], ◌∷◌, vstruct, vnil, ftrue, ‵, raw, ◌⊛◌, ◌$◌, ◌∵◌, !, qed, move, keep, use0, split, fjoin, suffices, done, agg, and_then, no_more, returns, enter, alloc_all, pass_all, free_all, look_at, get, sets, RattleType, nothing, Struct, says, walk_of, ends_at, mark}
 use Rattle.std.proofs.raw_atomic.Walks.{proved}
 use denote.Shadow.{makes_shadow}
 use denote.Triple.Entry.{alive}
