@@ -5,10 +5,7 @@
 set -euo pipefail
 cd "$(dirname "$0")"
 rounds=${1:-5}
-leda=../crates/leda/out/leda
-[ -x "$leda" ] || { echo "bench/console.sh: there is no $leda; run 'rt ci' at the top of the repository first" >&2; exit 1; }
-command -v cc >/dev/null || { echo "bench/console.sh: a C compiler, cc, is wanted for the yardstick" >&2; exit 1; }
-mkdir -p out
+. ./common.sh
 cc -O2 -o out/console console.c
 
 # 100,000 nodes, then 400,000 edges between nodes that a fixed recurrence picks.
@@ -25,7 +22,6 @@ awk 'BEGIN {
 out/console < out/script > out/replies.c
 cmp out/replies.leda out/replies.c
 
-cc -O2 -o out/measure measure.c
 
 # The least time and the greatest memory of each, taken in turn.
 for ((round = 0; round < rounds; round++)); do

@@ -5,11 +5,7 @@
 set -euo pipefail
 cd "$(dirname "$0")"
 rounds=${1:-5}
-leda=../crates/leda/out/leda
-[ -x "$leda" ] || { echo "bench/reach.sh: there is no $leda; run 'rt ci' at the top of the repository first" >&2; exit 1; }
-command -v cc >/dev/null || { echo "bench/reach.sh: a C compiler, cc, is wanted to measure" >&2; exit 1; }
-mkdir -p out
-cc -O2 -o out/measure measure.c
+. ./common.sh
 
 # The net's last node has no edge, so each second query finds a closed set.
 script() {
