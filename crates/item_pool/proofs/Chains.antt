@@ -96,9 +96,9 @@ module _ {X : Type 0} (A B : ℕ → Cell X) (n p : ℕ) (same : (i : ℕ) → i
     chain_push = record { counted = count; apart = one; linked = next; top = λ _. (within, number, after) }
 
 -- a block of free cells comes in front of the chain
-module _ {X : Type 0} (A B : ℕ → Cell X) (n m first free : ℕ) (m_is : m ≡ n + 64) (old : (i : ℕ) → i < n → B i ≡ A i)
-    (number : (k : ℕ) → k < 64 → (B (n + k)).number ≡ free + (64 - k)) (value : (i : ℕ) → n ≤ i → (B i).value ≡ None)
-    (link : (k : ℕ) → k + 1 < 64 → (B (n + k)).link ≡ n + (k + 1)) (last : (B (n + 63)).link ≡ first) (chain : IsChain A n first free) where
+module _ {X : Type 0} (A B : ℕ → Cell X) (n w m first free : ℕ) (some : 0 < w) (m_is : m ≡ n + w) (old : (i : ℕ) → i < n → B i ≡ A i)
+    (number : (k : ℕ) → k < w → (B (n + k)).number ≡ free + (w - k)) (value : (i : ℕ) → n ≤ i → (B i).value ≡ None)
+    (link : (k : ℕ) → k + 1 < w → (B (n + k)).link ≡ n + (k + 1)) (last : (B (n + (w - 1))).link ≡ first) (chain : IsChain A n first free) where
   on_old : (i k : ℕ) → IsFree A n i k → IsFree B m i k
   on_old i k is = let e = old i is.0 in let lt : i < n = is.0 in (omega arith, ap (λ c. c.number) e ∙ is.1, ap (λ c. c.value) e ∙ is.2)
 
@@ -106,19 +106,19 @@ module _ {X : Type 0} (A B : ℕ → Cell X) (n m first free : ℕ) (m_is : m �
   was_old i k lt is = let e = sym (old i lt) in (lt, ap (λ c. c.number) e ∙ is.1, ap (λ c. c.value) e ∙ is.2)
 
   -- a new cell's height
-  height : (i k : ℕ) → n ≤ i → IsFree B m i k → k + (i - n) ≡ free + 64
+  height : (i k : ℕ) → n ≤ i → IsFree B m i k → k + (i - n) ≡ free + w
   height i k ge is =
       let lt : i < m = is.0 in let back : n + (i - n) ≡ i = omega arith in
-      let h : (B i).number ≡ free + (64 - (i - n)) = subst (λ j. (B j).number ≡ free + (64 - (i - n))) back (number (i - n) (omega arith)) in
+      let h : (B i).number ≡ free + (w - (i - n)) = subst (λ j. (B j).number ≡ free + (w - (i - n))) back (number (i - n) (omega arith)) in
       let e : (B i).number ≡ k = is.1 in omega arith
 
-  is_new : (i k : ℕ) → n ≤ i → i < m → k + (i - n) ≡ free + 64 → IsFree B m i k
+  is_new : (i k : ℕ) → n ≤ i → i < m → k + (i - n) ≡ free + w → IsFree B m i k
   is_new i k ge lt e =
       let back : n + (i - n) ≡ i = omega arith in
-      let h : (B i).number ≡ free + (64 - (i - n)) = subst (λ j. (B j).number ≡ free + (64 - (i - n))) back (number (i - n) (omega arith)) in
+      let h : (B i).number ≡ free + (w - (i - n)) = subst (λ j. (B j).number ≡ free + (w - (i - n))) back (number (i - n) (omega arith)) in
       (lt, omega arith, value i ge)
 
-  count_more : (i k : ℕ) → IsFree B m i k → (0 < k) × (k ≤ free + 64)
+  count_more : (i k : ℕ) → IsFree B m i k → (0 < k) × (k ≤ free + w)
   count_more i k is = ⊎_elim
       (λ lt. let c = chain.counted i k (was_old i k lt is) in (c.0, omega (arith, c.1)))
       (λ ge. let h = height i k ge is in let lt : i < m = is.0 in (omega arith, omega arith)) (cases_lt i n)
@@ -139,14 +139,14 @@ module _ {X : Type 0} (A B : ℕ → Cell X) (n m first free : ℕ) (m_is : m �
       let l : (B i).link ≡ i + 1 = subst (λ j. (B j).link ≡ j + 1) back (omega (arith, link (i - n) inner)) in
       subst (λ j. IsFree B m j k) (sym l) (is_new (i + 1) k (omega arith) (omega arith) (omega arith)))
       (λ end.
-      let there : n + 63 ≡ i = omega arith in let all : free ≡ k = omega arith in
+      let there : n + (w - 1) ≡ i = omega arith in let all : free ≡ k = omega arith in
       let l : (B i).link ≡ first = subst (λ j. (B j).link ≡ first) there last in
-      subst (λ j. IsFree B m j k) (sym l) (subst (λ f. IsFree B m first f) all (on_old first free (chain.top (omega arith))))) (cases_lt (i - n + 1) 64)
+      subst (λ j. IsFree B m j k) (sym l) (subst (λ f. IsFree B m first f) all (on_old first free (chain.top (omega arith))))) (cases_lt (i - n + 1) w)
 
   next_more : (i k : ℕ) → IsFree B m i (k + 1) → 0 < k → IsFree B m (B i).link k
   next_more i k is pos = ⊎_elim
       (λ lt. subst (λ l. IsFree B m l k) (ap (λ c. c.link) (sym (old i lt))) (on_old (A i).link k (chain.linked i k (was_old i (k + 1) lt is) pos)))
       (λ ge. next_new i k ge is pos) (cases_lt i n)
 
-  pub chain_grow : IsChain B m n (free + 64)
-  chain_grow = record { counted = count_more; apart = one_more; linked = next_more; top = λ _. is_new n (free + 64) (omega arith) (omega arith) (omega arith) }
+  pub chain_grow : IsChain B m n (free + w)
+  chain_grow = record { counted = count_more; apart = one_more; linked = next_more; top = λ _. is_new n (free + w) (omega arith) (omega arith) (omega arith) }

@@ -1,6 +1,32 @@
--- Many blocks of 64 as one list: what stands at an index, and what a write to it leaves.
-use Rattle.std.proofs.Common.{◌≡◌, ℕ, zero, suc, ◌+◌, ◌*◌, ◌<◌, List, [], ◌∷◌, ◌++◌, length, get_or, set, refl, sym, ap, ◌∙◌, arith, append_assoc, length-append}
-use Rattle.item_pool.specs.Joined.{joined, AreBlocks}
+-- Many blocks as one list: what stands at an index, and what a write to it leaves.
+use Rattle.std.proofs.Common.{◌≡◌, ℕ, zero, suc, ◌+◌, ◌-◌, ◌*◌, ◌<◌, ◌≤◌, ◌^◌, List, [], ◌∷◌, ◌++◌, length, get_or, set, refl, sym, ap, ◌∙◌, ⊎_elim, arith, append_assoc, length-append}
+use Rattle.std.proofs.lemmas.Bool.{cases_lt}
+use Rattle.std.proofs.Math.Pow.{pow_mono}
+use Rattle.std.proofs.Math.Nat.{pow-suc}
+use Rattle.item_pool.specs.Joined.{block_size, LiesAt, joined, AreBlocks}
+
+pub n≤block_size : (n k : ℕ) → n ≤ block_size n k
+n≤block_size n zero = omega arith
+n≤block_size n (suc k) = omega (arith, n≤block_size (n + n) k)
+
+-- sizes are powers of two where the first is one
+block_size-power : (e k : ℕ) → block_size (2 ^ e) k ≡ 2 ^ (e + k)
+block_size-power e zero = ap (λ j. 2 ^ j) (let same : e ≡ e + 0 = omega arith in same)
+block_size-power e (suc k) =
+    let twice : 2 ^ e + 2 ^ e ≡ 2 ^ suc e = omega (arith, pow-suc 2 e) in
+    let more : suc e + k ≡ e + suc k = omega arith in
+    ap (λ n. block_size n k) twice ∙ block_size-power (suc e) k ∙ ap (λ j. 2 ^ j) more
+
+-- the highest bit of a number from 64 on is at least the one of 64
+pub high_bit : (n e : ℕ) → 64 ≤ n → n < 2 * 2 ^ e → 6 ≤ e
+high_bit n e ge lt = ⊎_elim (λ low. let most : 2 ^ e ≤ 2 ^ 5 = pow_mono {i = e} {j = 5} (omega arith) in absurd (omega arith)) (λ high. high) (cases_lt e 6)
+
+-- a slot lies in the block of the highest bit of the slot and 64
+pub lies_at : (slot e : ℕ) → 6 ≤ e → 2 ^ e ≤ slot + 64 → slot + 64 < 2 * 2 ^ e → LiesAt slot (e - 6) (slot + 64 - 2 ^ e)
+lies_at slot e ge low high =
+    let back : 6 + (e - 6) ≡ e = omega arith in
+    let size : block_size 64 (e - 6) ≡ 2 ^ e = block_size-power 6 (e - 6) ∙ ap (λ j. 2 ^ j) back in
+    (omega (arith, size), omega (arith, size))
 
 module _ {X : Type 0} where
   pub any_default : (xs : List X) (i : ℕ) (d e : X) → i < length xs → get_or xs i d ≡ get_or xs i e
@@ -28,33 +54,45 @@ module _ {X : Type 0} where
   set_right (x ∷ xs) ys zero j w e = absurd (omega arith)
   set_right (x ∷ xs) ys (suc i) j w e = ap (λ l. x ∷ l) (set_right xs ys i j w (omega arith))
 
-  pub joined_at : (bs : List (List X)) → AreBlocks bs → (i q r : ℕ) (d : X) → i ≡ q * 64 + r → r < 64 → get_or (joined bs) i d ≡ get_or (get_or bs q []) r d
-  joined_at [] long i q r d e h = refl
-  joined_at (b ∷ bs) long i zero r d e h = let same : i ≡ r = omega arith in at_left b (joined bs) i d (omega (arith, long.0)) ∙ ap (λ k. get_or b k d) same
-  joined_at (b ∷ bs) long i (suc q) r d e h = at_right b (joined bs) i (q * 64 + r) d (omega (arith, long.0)) ∙ joined_at bs long.1 (q * 64 + r) q r d refl h
+  -- an index of the joined list lies in the block k at the place r, where i + n ≡ block_size n k + r
+  pub is_block : (n : ℕ) (bs : List (List X)) → AreBlocks n bs → (i k r : ℕ) → i + n ≡ block_size n k + r → i < length (joined bs) → k < length bs
+  is_block n [] sizes i k r e lt = absurd (omega arith)
+  is_block n (b ∷ bs) sizes i zero r e lt = omega arith
+  is_block n (b ∷ bs) sizes i (suc k) r e lt =
+      let long = n≤block_size (n + n) k in
+      omega (arith, is_block (n + n) bs sizes.1 (i - n) k r (omega (arith, long)) (omega (arith, length-append b (joined bs), sizes.0, long)))
 
-  pub joined_set : (bs : List (List X)) → AreBlocks bs → (i q r : ℕ) (w : X) → i ≡ q * 64 + r → r < 64 → joined (set bs q (set (get_or bs q []) r w)) ≡ set (joined bs) i w
-  joined_set [] long i q r w e h = refl
-  joined_set (b ∷ bs) long i zero r w e h = let same : r ≡ i = omega arith in ap (λ k. set b k w ++ joined bs) same ∙ sym (set_left b (joined bs) i w (omega (arith, long.0)))
-  joined_set (b ∷ bs) long i (suc q) r w e h = ap (λ l. b ++ l) (joined_set bs long.1 (q * 64 + r) q r w refl h) ∙ sym (set_right b (joined bs) i (q * 64 + r) w (omega (arith, long.0)))
+  pub joined_at : (n : ℕ) (bs : List (List X)) → AreBlocks n bs → (i k r : ℕ) (d : X) → i + n ≡ block_size n k + r → r < block_size n k → get_or (joined bs) i d ≡ get_or (get_or bs k []) r d
+  joined_at n [] sizes i k r d e h = refl
+  joined_at n (b ∷ bs) sizes i zero r d e h = let same : i ≡ r = omega arith in at_left b (joined bs) i d (omega (arith, sizes.0)) ∙ ap (λ j. get_or b j d) same
+  joined_at n (b ∷ bs) sizes i (suc k) r d e h =
+      let long = n≤block_size (n + n) k in
+      at_right b (joined bs) i (i - n) d (omega (arith, sizes.0, long)) ∙ joined_at (n + n) bs sizes.1 (i - n) k r d (omega (arith, long)) h
 
-  pub length-joined : (bs : List (List X)) → AreBlocks bs → length (joined bs) ≡ length bs * 64
-  length-joined [] long = refl
-  length-joined (b ∷ bs) long = omega (arith, length-append b (joined bs), length-joined bs long.1, long.0)
+  pub joined_set : (n : ℕ) (bs : List (List X)) → AreBlocks n bs → (i k r : ℕ) (w : X) → i + n ≡ block_size n k + r → r < block_size n k → joined (set bs k (set (get_or bs k []) r w)) ≡ set (joined bs) i w
+  joined_set n [] sizes i k r w e h = refl
+  joined_set n (b ∷ bs) sizes i zero r w e h = let same : r ≡ i = omega arith in ap (λ j. set b j w ++ joined bs) same ∙ sym (set_left b (joined bs) i w (omega (arith, sizes.0)))
+  joined_set n (b ∷ bs) sizes i (suc k) r w e h =
+      let long = n≤block_size (n + n) k in
+      ap (λ l. b ++ l) (joined_set (n + n) bs sizes.1 (i - n) k r w (omega (arith, long)) h) ∙ sym (set_right b (joined bs) i (i - n) w (omega (arith, sizes.0, long)))
 
-  pub block_long : (bs : List (List X)) → AreBlocks bs → (q : ℕ) → q < length bs → length (get_or bs q []) ≡ 64
-  block_long [] long q h = absurd (omega arith)
-  block_long (b ∷ bs) long zero h = long.0
-  block_long (b ∷ bs) long (suc q) h = block_long bs long.1 q (omega arith)
+  pub length-joined : (n : ℕ) (bs : List (List X)) → AreBlocks n bs → length (joined bs) + n ≡ block_size n (length bs)
+  length-joined n [] sizes = omega arith
+  length-joined n (b ∷ bs) sizes = omega (arith, length-append b (joined bs), length-joined (n + n) bs sizes.1, sizes.0)
 
-  pub AreBlocks-set : (bs : List (List X)) → AreBlocks bs → (q : ℕ) (b : List X) → length b ≡ 64 → AreBlocks (set bs q b)
-  AreBlocks-set [] long q b h = tt
-  AreBlocks-set (a ∷ bs) long zero b h = (h, long.1)
-  AreBlocks-set (a ∷ bs) long (suc q) b h = (long.0, AreBlocks-set bs long.1 q b h)
+  pub block_long : (n : ℕ) (bs : List (List X)) → AreBlocks n bs → (k : ℕ) → k < length bs → length (get_or bs k []) ≡ block_size n k
+  block_long n [] sizes k h = absurd (omega arith)
+  block_long n (b ∷ bs) sizes zero h = sizes.0
+  block_long n (b ∷ bs) sizes (suc k) h = block_long (n + n) bs sizes.1 k (omega arith)
 
-  pub AreBlocks-push : (bs : List (List X)) → AreBlocks bs → (b : List X) → length b ≡ 64 → AreBlocks (bs ++ b ∷ [])
-  AreBlocks-push [] long b h = (h, tt)
-  AreBlocks-push (a ∷ bs) long b h = (long.0, AreBlocks-push bs long.1 b h)
+  pub AreBlocks-set : (n : ℕ) (bs : List (List X)) → AreBlocks n bs → (k : ℕ) (b : List X) → length b ≡ block_size n k → AreBlocks n (set bs k b)
+  AreBlocks-set n [] sizes k b h = tt
+  AreBlocks-set n (a ∷ bs) sizes zero b h = (h, sizes.1)
+  AreBlocks-set n (a ∷ bs) sizes (suc k) b h = (sizes.0, AreBlocks-set (n + n) bs sizes.1 k b h)
+
+  pub AreBlocks-push : (n : ℕ) (bs : List (List X)) → AreBlocks n bs → (b : List X) → length b ≡ block_size n (length bs) → AreBlocks n (bs ++ b ∷ [])
+  AreBlocks-push n [] sizes b h = (h, tt)
+  AreBlocks-push n (a ∷ bs) sizes b h = (sizes.0, AreBlocks-push (n + n) bs sizes.1 b h)
 
   pub joined-push : (bs : List (List X)) (b : List X) → joined (bs ++ b ∷ []) ≡ joined bs ++ b
   joined-push [] [] = refl

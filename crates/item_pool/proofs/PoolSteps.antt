@@ -59,7 +59,7 @@ module _ {X : Type 0} where
       counted = live ∙ ap (λ n. n + 1) is.counted ∙ sym (ap map.len insert_live ∙ len_insert (live_of p.cells) (p.made + 1) y (seen_new p.cells (slot_of p) p.made is.table (p.made + 1) refl));
       total = let t : p.free + p.live ≡ length p.cells = is.total in omega (arith, long);
       few = (let low : p.live ≤ p.made = is.few.0 in omega arith, omega arith);
-      short = let s : length p.cells < 2 ^ 26 = is.short in subst (λ n. n < 2 ^ 26) (sym long) s;
+      short = let s : length p.cells < 2 ^ 27 = is.short in subst (λ n. n < 2 ^ 27) (sym long) s;
     }
 
   -- a value goes out
@@ -107,7 +107,7 @@ module _ {X : Type 0} where
       counted = let c : p.live ≡ map.len (live_of p.cells) = is.counted in omega (arith, fewer);
       total = let c : p.live ≡ map.len (live_of p.cells) = is.counted in let t : p.free + p.live ≡ length p.cells = is.total in omega (arith, fewer, length_is);
       few = (let low : p.live ≤ p.made = is.few.0 in omega arith, let most : p.made ≤ 16777215 = is.few.1 in omega arith);
-      short = let l : length p.cells < 2 ^ 26 = is.short in subst (λ n. n < 2 ^ 26) (sym length_is) l;
+      short = let l : length p.cells < 2 ^ 27 = is.short in subst (λ n. n < 2 ^ 27) (sym length_is) l;
     }
 
   -- a value is written to
@@ -151,7 +151,7 @@ module _ {X : Type 0} where
       counted = live ∙ is.counted ∙ sym as_many;
       total = let t : p.free + p.live ≡ length p.cells = is.total in omega (arith, as_long);
       few = (let low : p.live ≤ p.made = is.few.0 in omega arith, let most : p.made ≤ 16777215 = is.few.1 in omega arith);
-      short = let l : length p.cells < 2 ^ 26 = is.short in subst (λ n. n < 2 ^ 26) (sym as_long) l;
+      short = let l : length p.cells < 2 ^ 27 = is.short in subst (λ n. n < 2 ^ 27) (sym as_long) l;
     }
 
   pub live_within : (cells : List (Cell X)) (i : ℕ) (x : X) → (cell_at cells i).value ≡ Some x → i < length cells
@@ -197,34 +197,34 @@ module _ {X : Type 0} where
     }
 
   -- a block of free cells more
-  module _ (cells more : List (Cell X)) (n first free : ℕ) (more_is : more ≡ cells ++ chained 64 n free first) (n_is : n ≡ length cells) where
+  module _ (cells more : List (Cell X)) (n w first free : ℕ) (some : 0 < w) (more_is : more ≡ cells ++ chained w n free first) (n_is : n ≡ length cells) where
     first_part : (i : ℕ) → i < n → cell_at more i ≡ cell_at cells i
-    first_part i lt = ap (λ l. cell_at l i) more_is ∙ at_left cells (chained 64 n free first) i blank (omega arith)
+    first_part i lt = ap (λ l. cell_at l i) more_is ∙ at_left cells (chained w n free first) i blank (omega arith)
 
-    last_part : (k : ℕ) → cell_at more (n + k) ≡ cell_at (chained 64 n free first) k
-    last_part k = ap (λ l. cell_at l (n + k)) more_is ∙ at_right cells (chained 64 n free first) (n + k) k blank (omega arith)
+    last_part : (k : ℕ) → cell_at more (n + k) ≡ cell_at (chained w n free first) k
+    last_part k = ap (λ l. cell_at l (n + k)) more_is ∙ at_right cells (chained w n free first) (n + k) k blank (omega arith)
 
     behind : (i : ℕ) → n ≤ i → (cell_at more i).value ≡ None
-    behind i ge = let back : i ≡ n + (i - n) = omega arith in ap (λ j. (cell_at more j).value) back ∙ ap (λ c. c.value) (last_part (i - n)) ∙ chained_value X 64 n free first (i - n)
+    behind i ge = let back : i ≡ n + (i - n) = omega arith in ap (λ j. (cell_at more j).value) back ∙ ap (λ c. c.value) (last_part (i - n)) ∙ chained_value X w n free first (i - n)
 
-    more_long : length more ≡ n + 64
-    more_long = omega (arith, ap length more_is, length-append cells (chained 64 n free first), length-chained X 64 n free first)
+    more_long : length more ≡ n + w
+    more_long = omega (arith, ap length more_is, length-append cells (chained w n free first), length-chained X w n free first)
 
-    pub grown_chain : IsChain (cell_at cells) (length cells) first free → IsChain (cell_at more) (length more) n (free + 64)
-    grown_chain chain = chain_grow (cell_at cells) (cell_at more) n (length more) first free more_long first_part
-        (λ k lt. ap (λ c. c.number) (last_part k) ∙ chained_number X 64 n free first k lt) behind
-        (λ k lt. ap (λ c. c.link) (last_part k) ∙ chained_link X 64 n free first k lt)
-        (ap (λ c. c.link) (last_part 63) ∙ chained_last X 64 n free first 63 refl)
+    pub grown_chain : IsChain (cell_at cells) (length cells) first free → IsChain (cell_at more) (length more) n (free + w)
+    grown_chain chain = chain_grow (cell_at cells) (cell_at more) n w (length more) first free some more_long first_part
+        (λ k lt. ap (λ c. c.number) (last_part k) ∙ chained_number X w n free first k lt) behind
+        (λ k lt. ap (λ c. c.link) (last_part k) ∙ chained_link X w n free first k lt)
+        (ap (λ c. c.link) (last_part (w - 1)) ∙ chained_last X w n free first (w - 1) (omega arith))
         (subst (λ m. IsChain (cell_at cells) m first free) (sym n_is) chain)
 
-    pub grown_long : length more ≡ length cells + 64
+    pub grown_long : length more ≡ length cells + w
     grown_long = omega (arith, more_long)
 
     pub is_grown : IsGrown cells more
     is_grown = record {
       old = λ i lt. first_part i (omega arith);
       new = λ i ge. behind i (omega arith);
-      live = ap (λ l. live_of l) more_is ∙ ap (λ es. map.from_entries es) (live_append cells (chained 64 n free first) (λ k. chained_value X 64 n free first k));
+      live = ap (λ l. live_of l) more_is ∙ ap (λ es. map.from_entries es) (live_append cells (chained w n free first) (λ k. chained_value X w n free first k));
       longer = omega (arith, more_long);
     }
 
@@ -238,7 +238,7 @@ module _ {X : Type 0} where
 
   -- there is more room
   module _ (p q : Inside X) (is : IsPool p) (grown : IsGrown p.cells q.cells) (chain : IsChain (cell_at q.cells) (length q.cells) q.first q.free) (total : q.free + p.live ≡ length q.cells)
-      (short : length q.cells < 2 ^ 26) (slots : (s : ℕ) → slot_of q s ≡ slot_of p s) (live : q.live ≡ p.live) (made : q.made ≡ p.made) where
+      (short : length q.cells < 2 ^ 27) (slots : (s : ℕ) → slot_of q s ≡ slot_of p s) (live : q.live ≡ p.live) (made : q.made ≡ p.made) where
     table_old : IsTable (cell_at q.cells) (slot_of p) p.made
     table_old = table_grow (cell_at p.cells) (cell_at q.cells) (length p.cells) grown.old (past_end p.cells) grown.new (slot_of p) p.made is.table
 

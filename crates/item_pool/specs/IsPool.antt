@@ -11,4 +11,4 @@ pub record IsPool {X : Type 0} (p : Inside X) : Type 0 where
   pub counted : p.live ≡ map.len (live_of p.cells)
   pub total : p.free + p.live ≡ length p.cells
   pub few : (p.live ≤ p.made) × (p.made ≤ 16777215)
-  pub short : length p.cells < 2 ^ 26
+  pub short : length p.cells < 2 ^ 27

@@ -1,12 +1,12 @@
 //! A pool of values, each named by the serial number that it was given when it came in.
 //!
 //! Serials are given in turn from 1 to 16,777,215, each once, so that an item that outlived its value is told from one
-//! that never was. A live value is never moved: cells lie in blocks of 64, in raw memory of their own, and a pool that
-//! grows gets one block more. (Blocks of one fixed length make a slot a block's number times 64 and a place in it, so
-//! there is nothing to look up; blocks that grew would need a search or a table.)
+//! that never was. A live value is never moved: cells lie in blocks of raw memory, the first of 64 cells and each other of
+//! twice as many as the one before, and a pool that grows gets one block more. A slot's block and place are read off
+//! its bits.
 //!
 //! - `places`: a block of raw memory as a row of places. All that holds a pointer stands there.
-//! - `block` and `cells`: blocks of 64 cells, and cells by their slots.
+//! - `block` and `cells`: blocks of cells, and cells by their slots.
 //! - `pool`: the free cells are one chain, and a hash table has the slot of each live serial. Its room is that of the
 //!   most values that lived at once, whatever the serials are.
 //!

@@ -7,8 +7,7 @@ ghost use Rattle.item_pool.specs.Chained.{blank};
 ghost use Rattle.item_pool.specs.CellsKept.{cell_at, IsChain, IsLive, IsGrown};
 ghost use Rattle.item_pool.specs.Contents.{contents, IsAsBefore, IsWithin, Holds, HasLive, Lacks, Inserts, Refuses, Removes, WhyGone};
 
-use crate::block::BLOCK;
-use crate::cells::Cells;
+use crate::cells::{Cells, FIRST_BLOCK};
 use std::alloc::Global;
 use std::collections::HashMap;
 use std::marker::Model;
@@ -153,9 +152,9 @@ fn add_cells<T>(
 ) -> Result<(), ReserveRefusal>
     requires chain { IsChain (cell_at cells.old) (length cells.old) first.old free.old }
     requires total { free.old + live ≡ length cells.old }
-    requires few { (n ≤ 16777215) × (live ≤ 16777215) × (length cells.old < 2 ^ 26) }
+    requires few { (n ≤ 16777215) × (live ≤ 16777215) × (length cells.old < 2 ^ 27) }
     ensures chain { IsChain (cell_at cells.new) (length cells.new) first.new free.new }
-    ensures total { (free.new + live ≡ length cells.new) × (length cells.new < 2 ^ 26) }
+    ensures total { (free.new + live ≡ length cells.new) × (length cells.new < 2 ^ 27) }
     ensures live { IsGrown cells.old cells.new }
     ensures more { free.old ≤ free.new }
     ensures ok { OnOk result (n ≤ free.new) }
@@ -166,7 +165,7 @@ fn add_cells<T>(
         match cells.grow(len, *free, *first) {
             Ok(()) => {
                 *first = len;
-                *free += BLOCK;
+                *free += len + FIRST_BLOCK;
             }
             Err(_) => return Err(ReserveRefusal::NoMemory),
         }

@@ -6,7 +6,7 @@ abbrev pub invariant-loop-free : goal.invariant-loop-free
 invariant-loop-free g l = record {
   chain : IsChain (cell_at l.cells) (length l.cells) l.first l.free;
   total : l.free + l.live ≡ length l.cells;
-  short : length l.cells < 2 ^ 26;
+  short : length l.cells < 2 ^ 27;
   grown : IsGrown l.initial.cells l.cells;
   more : l.initial.free ≤ l.free;
 }

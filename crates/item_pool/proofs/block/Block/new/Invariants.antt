@@ -4,4 +4,4 @@ use Rattle.item_pool.proofs.Blocks.{filled_to}
 use Rattle.item_pool.proofs.block.Block.new.Given as goal
 
 abbrev pub invariant-loop-index : goal.invariant-loop-index
-invariant-loop-index g l = record { at : l.places.at ≡ l.start.ptr; row : l.places.row ≡ filled_to l.index (chained 64 l.base l.free l.next) }
+invariant-loop-index g l = record { at : l.places.at ≡ l.start.ptr; row : l.places.row ≡ filled_to l.index (chained l.len l.base l.free l.next) }

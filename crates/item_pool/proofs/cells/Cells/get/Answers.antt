@@ -1,19 +1,27 @@
-use Rattle.std.proofs.Common.{◌≡◌, ◌<◌, ◌/◌, ◌%◌, [], get_or, length, sym, ap, ◌∙◌, subst, arith}
+use Rattle.std.proofs.Common.{◌≡◌, ◌<◌, [], get_or, length, sym, ap, ◌∙◌, subst, arith}
 use Rattle.item_pool.specs.Chained.{blank}
-use Rattle.item_pool.specs.Joined.{joined}
-use Rattle.item_pool.proofs.Joins.{any_default, joined_at, length-joined}
+use Rattle.item_pool.specs.Joined.{block_size, joined}
+use Rattle.item_pool.proofs.Joins.{any_default, is_block, joined_at, block_long}
 use Rattle.item_pool.proofs.cells.Cells.get.Goals as goal
 
-pub index-block-requires : goal.index-block-requires
-index-block-requires g c =
-    let bs = c.self.inside.blocks.items in
+pub index-requires : goal.index-requires
+index-requires g c =
+    let bs = c.self.inside.blocks.items in let at = c.place_of-block in
     let asked : c.args.slot < length (joined bs) = subst (λ s. c.args.slot < length s) (sym c.self.view_is) c.requires in
-    omega (arith, length-joined bs c.self.invariant)
+    omega (arith, is_block 64 bs c.self.invariant c.args.slot at.result.0 at.result.1 at.ensures.0 asked)
+
+pub get-requires : goal.get-requires
+get-requires g c =
+    let bs = c.self.inside.blocks.items in let at = c.place_of-block in let k = at.result.0 in
+    let asked : c.args.slot < length (joined bs) = subst (λ s. c.args.slot < length s) (sym c.self.view_is) c.requires in
+    let lt = is_block 64 bs c.self.invariant c.args.slot k at.result.1 at.ensures.0 asked in
+    let block : c.index.result.now ≡ get_or bs k [] = c.index.ensures ∙ any_default bs k c.index.result.now [] lt in
+    subst (λ n. at.result.1 < n) (sym (ap length block ∙ block_long 64 bs c.self.invariant k lt)) at.ensures.1
 
 pub returns : goal.returns
 returns g c =
-    let bs = c.self.inside.blocks.items in let s = c.args.slot in
+    let bs = c.self.inside.blocks.items in let s = c.args.slot in let at = c.place_of-block in let k = at.result.0 in let i = at.result.1 in
     let asked : s < length (joined bs) = subst (λ l. s < length l) (sym c.self.view_is) c.requires in
-    let lt : s / 64 < length bs = omega (arith, length-joined bs c.self.invariant) in
-    let block : c.index-block.result.now ≡ get_or bs (s / 64) [] = c.index-block.ensures ∙ any_default bs (s / 64) c.index-block.result.now [] lt in
-    c.get.ensures ∙ ap (λ b. get_or b (s % 64) blank) block ∙ sym (joined_at bs c.self.invariant s (s / 64) (s % 64) blank (omega arith) (omega arith)) ∙ ap (λ l. get_or l s blank) c.self.view_is
+    let lt = is_block 64 bs c.self.invariant s k i at.ensures.0 asked in
+    let block : c.index.result.now ≡ get_or bs k [] = c.index.ensures ∙ any_default bs k c.index.result.now [] lt in
+    c.get.ensures ∙ ap (λ b. get_or b i blank) block ∙ sym (joined_at 64 bs c.self.invariant s k i blank at.ensures.0 at.ensures.1) ∙ ap (λ l. get_or l s blank) c.self.view_is
