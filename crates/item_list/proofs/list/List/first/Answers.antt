@@ -1,0 +1,8 @@
+-- The first member has the first serial for its tag.
+use Rattle.item_list.proofs.Steps.{first_named}
+use Rattle.item_list.proofs.list.List.first.Goals as goal
+
+pub item_at-requires : goal.item_at-requires
+item_at-requires g c =
+    let a = c.self.inside in
+    first_named a.rings a.head a.nodes c.self.invariant c.in-Some.ring c.in-Some-first.member c.in-Some.is c.in-Some-first.ensures.first

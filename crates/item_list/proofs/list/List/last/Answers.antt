@@ -1,0 +1,23 @@
+-- The last member has the last serial for its tag.
+use Rattle.std.proofs.Common.{◌≡◌, Some, None, subst}
+use Rattle.item_ring.specs.RingLists.{back}
+use Rattle.item_list.specs.Items.{Items, serials}
+use Rattle.item_list.proofs.Steps.{last_named, last_is, last_none}
+use Rattle.item_list.proofs.list.List.last.Goals as goal
+
+pub item_at-requires : goal.item_at-requires
+item_at-requires g c =
+    let a = c.self.inside in
+    last_named a.rings a.head a.nodes c.self.invariant c.in-Some.ring c.in-Some-last.member c.in-Some.is c.in-Some-last.ensures.last
+
+pub returns-in-Some-last : goal.returns-in-Some-last
+returns-in-Some-last g c =
+    let a = c.self.inside in
+    subst (λ (l : Items g.row.E.Denot). Some c.item_at.result.serial ≡ back (serials l.pairs)) c.self.view_is
+    (last_is a.rings a.head a.nodes c.self.invariant c.in-Some.ring c.in-Some-last.member c.item_at.result.serial c.in-Some.is c.in-Some-last.ensures.last c.item_at.ensures)
+
+pub returns-in-None-last : goal.returns-in-None-last
+returns-in-None-last g c =
+    let a = c.self.inside in
+    subst (λ (l : Items g.row.E.Denot). None ≡ back (serials l.pairs)) c.self.view_is
+    (last_none a.rings a.head a.nodes c.self.invariant c.in-Some.ring c.in-Some.is c.in-None-last.ensures.last)

@@ -1,0 +1,3 @@
+pub mod Holds
+pub mod Items
+pub mod Kept

@@ -1,0 +1,19 @@
+//! A list of values by items.
+//!
+//! An item names a value by its serial number for as long as the value is in the list, wherever the value is moved to,
+//! and isn't given again (the type `list` of Mehlhorn and Naeher, LEDA, Cambridge 1999, section 3.2).
+//!
+//! - `node`: what is kept for an item.
+//! - `list`: a ring of members gives the order, and a pool of nodes has the values.
+#![tactic(auto)]
+
+mod list;
+mod node;
+#[cfg(test)]
+mod tests;
+
+pub use item_pool::{Gone, InsertRefusal, Item};
+pub use list::List;
+pub use node::BesideRefusal;
+#[doc(hidden)]
+pub use node::Node;

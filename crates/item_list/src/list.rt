@@ -1,0 +1,409 @@
+//! The list: a ring of members for the order, and a pool of nodes for the values.
+ghost use Rattle.std.specs.Prelude.{◌≡◌, ℕ, ◌+◌, ◌<◌, ◌≤◌, List, [], ◌∷◌, ◌++◌, length, Some, None, IfOk, IfErr, MatchResult};
+ghost use Rattle.std.specs.FinMap as map;
+ghost use Rattle.item_ring.specs.RingLists.{AreApart, IsHead, front, back};
+ghost use Rattle.item_list.specs.Kept.{Opens, IsHeaded, IsKept, IsNamed, Makes, Comes, Declines, Declined};
+ghost use Rattle.item_list.specs.Items.{items, serials, serial_of, pairs_before, pairs_behind, pairs_with, Holds, HasItem, Lacks, AreItems, Enters, Returns, ReturnsBeside, Removes, Assigns, beside_of, MovesToFront, MovesToRear, IsBehind, IsBefore, IsCyclicBehind, IsCyclicBefore};
+
+use crate::node::{BesideRefusal, Node};
+use item_pool::{Gone, InsertRefusal, Item, MOST_SERIALS, Pool};
+use item_ring::{Head, Member, RingRefusal, Rings};
+use std::alloc::Global;
+use std::marker::Model;
+use std::mem;
+
+/// A list of values. Each has an item, by which it is found in constant time wherever it stands.
+///
+/// A clause sees the values in their order, each with its serial, and how many serials were made.
+#[derive(Drop)]
+pub struct List<E> {
+    rings: Rings,
+    /// The ring of all members, which is made with the first value.
+    head: Option<Head>,
+    nodes: Pool<Node<E>>,
+}
+
+impl<E> Model for List<E> {
+    ghost use Rattle.item_list.specs.Items.{Items, items_code};
+
+    ghost Value = { Items E };
+
+    ghost coded = { items_code E.code };
+
+    ghost use Rattle.item_list.specs.Holds.{list_of, IsList};
+
+    ghost view = { λ a. list_of a };
+
+    ghost invariant = { λ a. IsList a };
+}
+
+/// The head of the ring, which is made where there is none.
+fn open_ring(rings: &mut Rings, head: &mut Option<Head>) -> Result<Head, RingRefusal>
+    requires headed { IsHeaded rings.old head.old }
+    requires apart { AreApart rings.old }
+    ensures ok { IfOk result (λ h. Opens rings.old rings.new head.old head.new h) }
+    ensures err { IfErr result (λ _. (rings.new ≡ rings.old) × (head.new ≡ head.old)) }
+{
+    if let Some(there) = *head {
+        return Ok(there);
+    }
+    let made = rings.add_head()?;
+    *head = Some(made);
+    Ok(made)
+}
+
+/// Takes a value in under the next serial, with a member that is loose.
+fn make_node<E>(
+    rings: &mut Rings,
+    nodes: &mut Pool<Node<E>>,
+    value: E,
+) -> Result<(Member, Item), InsertRefusal<E>>
+    requires few { map.len rings.old.tags ≤ nodes.old.made }
+    requires room { nodes.old.made < 16777215 }
+    ensures ok { IfOk result (λ r. Makes rings.old rings.new nodes.old nodes.new r.0 r.1 value) }
+    ensures err { IfErr result (λ why. Declines rings.old rings.new nodes.old nodes.new value why) }
+{
+    if nodes.spare() == 0 && nodes.reserve(1).is_err() {
+        return Err(InsertRefusal::NoMemory(value));
+    }
+    match rings.add_member(nodes.made() + 1) {
+        Ok(member) => {
+            let item = nodes.insert_reserved(Node { value, member });
+            Ok((member, item))
+        }
+        Err(_) => Err(InsertRefusal::NoMemory(value)),
+    }
+}
+
+/// Takes a value in under the next serial, with a member that is loose, and makes the ring where there is none.
+fn enter<E>(
+    rings: &mut Rings,
+    head: &mut Option<Head>,
+    nodes: &mut Pool<Node<E>>,
+    value: E,
+) -> Result<(Head, Member, Item), InsertRefusal<E>>
+    requires kept { IsKept rings.old head.old nodes.old }
+    ensures ok { IfOk result (λ r. Comes rings.old rings.new head.old head.new nodes.old nodes.new r.0 r.1 r.2 value) }
+    ensures err { IfErr result (λ why. Declined rings.old rings.new head.old head.new nodes.old nodes.new value why) }
+{
+    if nodes.made() == MOST_SERIALS {
+        return Err(InsertRefusal::Spent(value));
+    }
+    let ring = match open_ring(rings, head) {
+        Ok(ring) => ring,
+        Err(_) => return Err(InsertRefusal::NoMemory(value)),
+    };
+    match make_node(rings, nodes, value) {
+        Ok((member, item)) => Ok((ring, member, item)),
+        Err(why) => Err(why),
+    }
+}
+
+/// The refusal of a value that was to stand beside an item.
+fn beside<E>(why: InsertRefusal<E>) -> BesideRefusal<E>
+    ensures { result ≡ beside_of why }
+{
+    match why {
+        InsertRefusal::NoMemory(value) => BesideRefusal::NoMemory(value),
+        InsertRefusal::Spent(value) => BesideRefusal::Spent(value),
+    }
+}
+
+/// The item of a member.
+fn item_at<E>(rings: &Rings, nodes: &Pool<Node<E>>, member: Member) -> Item
+    requires { IsNamed rings.now nodes.now member }
+    ensures { map.get rings.now.tags member ≡ Some result.serial }
+{
+    match nodes.item(rings.tag(member)) {
+        Ok(item) => item,
+        Err(_) => unreachable!(),
+    }
+}
+
+impl<E: Drop> List<E> {
+    /// A list of no values, which takes no memory.
+    pub fn new(alloc: Global) -> List<E>
+        ensures { result ≡ items [] 0 }
+    {
+        List {
+            rings: Rings::new(alloc),
+            head: None,
+            nodes: Pool::new(alloc),
+        }
+    }
+
+    /// Puts a value at the front.
+    ///
+    /// # Errors
+    ///
+    /// `Spent` exactly where 16,777,215 items were made, and `NoMemory` where there is no memory. The value comes back,
+    /// and the list is as before.
+    pub fn push(&mut self, v: E) -> Result<Item, InsertRefusal<E>>
+        ensures ok { IfOk result (λ it. Enters self.old self.new it ((self.old.made + 1, v) ∷ self.old.pairs)) }
+        ensures err { IfErr result (λ why. Returns self.old v why × (self.new ≡ self.old)) }
+    {
+        match enter(&mut self.rings, &mut self.head, &mut self.nodes, v) {
+            Ok((ring, member, item)) => {
+                self.rings.push_front(ring, member);
+                Ok(item)
+            }
+            Err(why) => Err(why),
+        }
+    }
+
+    /// Puts a value at the rear.
+    ///
+    /// # Errors
+    ///
+    /// As those of `push`.
+    pub fn append(&mut self, v: E) -> Result<Item, InsertRefusal<E>>
+        ensures ok { IfOk result (λ it. Enters self.old self.new it (self.old.pairs ++ (self.old.made + 1, v) ∷ [])) }
+        ensures err { IfErr result (λ why. Returns self.old v why × (self.new ≡ self.old)) }
+    {
+        match enter(&mut self.rings, &mut self.head, &mut self.nodes, v) {
+            Ok((ring, member, item)) => {
+                self.rings.push_back(ring, member);
+                Ok(item)
+            }
+            Err(why) => Err(why),
+        }
+    }
+
+    /// Takes a value out. Its serial isn't given again.
+    ///
+    /// # Errors
+    ///
+    /// `Dead` where the serial is from 1 to the number made and isn't in the list, and `Unknown` where it is 0 or above.
+    /// The list is then as it was.
+    pub fn del_item(&mut self, it: Item) -> Result<E, Gone>
+        ensures { MatchResult result (λ v. Removes self.old self.new it.serial v) (λ why. Lacks self.old it.serial why × (self.new ≡ self.old)) }
+    {
+        match self.nodes.remove(it) {
+            Ok(node) => {
+                self.rings.unlink(node.member);
+                self.rings.drop_member(node.member);
+                Ok(node.value)
+            }
+            Err(why) => Err(why),
+        }
+    }
+
+    /// The value of an item.
+    ///
+    /// # Errors
+    ///
+    /// As those of `del_item`.
+    pub fn contents(&self, it: Item) -> Result<&E, Gone>
+        ensures { MatchResult result (λ v. Holds self.now it.serial v.now) (λ why. Lacks self.now it.serial why) }
+    {
+        match self.nodes.get(it) {
+            Ok(node) => Ok(&node.value),
+            Err(why) => Err(why),
+        }
+    }
+
+    /// The first item, and none exactly where the list is empty.
+    pub fn first(&self) -> Option<Item>
+        ensures { serial_of result ≡ front (serials self.now.pairs) }
+    {
+        match self.head {
+            Some(ring) => match self.rings.first(ring) {
+                Some(member) => Some(item_at(&self.rings, &self.nodes, member)),
+                None => None,
+            },
+            None => None,
+        }
+    }
+
+    /// The item behind, and none exactly where the item is the last.
+    ///
+    /// # Errors
+    ///
+    /// As those of `del_item`.
+    pub fn succ(&self, it: Item) -> Result<Option<Item>, Gone>
+        ensures { MatchResult result (λ r. IsBehind self.now it.serial r) (λ why. Lacks self.now it.serial why) }
+    {
+        match self.nodes.get(it) {
+            Ok(node) => match self.rings.next(node.member) {
+                Some(next) => Ok(Some(item_at(&self.rings, &self.nodes, next))),
+                None => Ok(None),
+            },
+            Err(why) => Err(why),
+        }
+    }
+
+    /// Moves an item before all others.
+    ///
+    /// # Errors
+    ///
+    /// As those of `del_item`.
+    pub fn move_to_front(&mut self, it: Item) -> Result<(), Gone>
+        ensures { MatchResult result (λ _. MovesToFront self.old self.new it.serial) (λ why. Lacks self.old it.serial why × (self.new ≡ self.old)) }
+    {
+        match self.nodes.get(it) {
+            Ok(node) => {
+                let member = node.member;
+                let ring = self.rings.head_of(member);
+                self.rings.unlink(member);
+                self.rings.push_front(ring, member);
+                Ok(())
+            }
+            Err(why) => Err(why),
+        }
+    }
+
+    /// Moves an item behind all others.
+    ///
+    /// # Errors
+    ///
+    /// As those of `del_item`.
+    pub fn move_to_rear(&mut self, it: Item) -> Result<(), Gone>
+        ensures { MatchResult result (λ _. MovesToRear self.old self.new it.serial) (λ why. Lacks self.old it.serial why × (self.new ≡ self.old)) }
+    {
+        match self.nodes.get(it) {
+            Ok(node) => {
+                let member = node.member;
+                let ring = self.rings.head_of(member);
+                self.rings.unlink(member);
+                self.rings.push_back(ring, member);
+                Ok(())
+            }
+            Err(why) => Err(why),
+        }
+    }
+
+    /// The last item, and none exactly where the list is empty.
+    pub fn last(&self) -> Option<Item>
+        ensures { serial_of result ≡ back (serials self.now.pairs) }
+    {
+        match self.head {
+            Some(ring) => match self.rings.last(ring) {
+                Some(member) => Some(item_at(&self.rings, &self.nodes, member)),
+                None => None,
+            },
+            None => None,
+        }
+    }
+
+    /// The item before, and none exactly where the item is the first.
+    ///
+    /// # Errors
+    ///
+    /// As those of `del_item`.
+    pub fn pred(&self, it: Item) -> Result<Option<Item>, Gone>
+        ensures { MatchResult result (λ r. IsBefore self.now it.serial r) (λ why. Lacks self.now it.serial why) }
+    {
+        match self.nodes.get(it) {
+            Ok(node) => match self.rings.prev(node.member) {
+                Some(prev) => Ok(Some(item_at(&self.rings, &self.nodes, prev))),
+                None => Ok(None),
+            },
+            Err(why) => Err(why),
+        }
+    }
+
+    /// The item behind, and the first behind the last.
+    ///
+    /// # Errors
+    ///
+    /// As those of `del_item`.
+    pub fn cyclic_succ(&self, it: Item) -> Result<Item, Gone>
+        ensures { MatchResult result (λ r. IsCyclicBehind self.now it.serial r) (λ why. Lacks self.now it.serial why) }
+    {
+        match self.nodes.get(it) {
+            Ok(node) => {
+                let next = self.rings.cyclic_next(node.member);
+                Ok(item_at(&self.rings, &self.nodes, next))
+            }
+            Err(why) => Err(why),
+        }
+    }
+
+    /// The item before, and the last before the first.
+    ///
+    /// # Errors
+    ///
+    /// As those of `del_item`.
+    pub fn cyclic_pred(&self, it: Item) -> Result<Item, Gone>
+        ensures { MatchResult result (λ r. IsCyclicBefore self.now it.serial r) (λ why. Lacks self.now it.serial why) }
+    {
+        match self.nodes.get(it) {
+            Ok(node) => {
+                let prev = self.rings.cyclic_prev(node.member);
+                Ok(item_at(&self.rings, &self.nodes, prev))
+            }
+            Err(why) => Err(why),
+        }
+    }
+
+    /// Puts a value right behind an item.
+    ///
+    /// # Errors
+    ///
+    /// `Gone` where the item isn't in the list, as of `del_item`. Else `Spent` exactly where 16,777,215 items were made,
+    /// and `NoMemory` where there is no memory. The value comes back, and the list is as before.
+    pub fn insert_behind(&mut self, at: Item, v: E) -> Result<Item, BesideRefusal<E>>
+        ensures ok { IfOk result (λ it. HasItem self.old at.serial × Enters self.old self.new it (pairs_behind at.serial (self.old.made + 1, v) self.old.pairs)) }
+        ensures err { IfErr result (λ why. ReturnsBeside self.old at.serial v why × (self.new ≡ self.old)) }
+    {
+        let place = match self.nodes.get(at) {
+            Ok(node) => node.member,
+            Err(why) => return Err(BesideRefusal::Gone(v, why)),
+        };
+        match enter(&mut self.rings, &mut self.head, &mut self.nodes, v) {
+            Ok((_, member, item)) => {
+                self.rings.insert_after(place, member);
+                Ok(item)
+            }
+            Err(why) => Err(beside(why)),
+        }
+    }
+
+    /// Puts a value right before an item.
+    ///
+    /// # Errors
+    ///
+    /// As those of `insert_behind`.
+    pub fn insert_before(&mut self, at: Item, v: E) -> Result<Item, BesideRefusal<E>>
+        ensures ok { IfOk result (λ it. HasItem self.old at.serial × Enters self.old self.new it (pairs_before at.serial (self.old.made + 1, v) self.old.pairs)) }
+        ensures err { IfErr result (λ why. ReturnsBeside self.old at.serial v why × (self.new ≡ self.old)) }
+    {
+        let place = match self.nodes.get(at) {
+            Ok(node) => node.member,
+            Err(why) => return Err(BesideRefusal::Gone(v, why)),
+        };
+        match enter(&mut self.rings, &mut self.head, &mut self.nodes, v) {
+            Ok((_, member, item)) => {
+                self.rings.insert_before(place, member);
+                Ok(item)
+            }
+            Err(why) => Err(beside(why)),
+        }
+    }
+
+    /// Gives an item another value. The old one comes back.
+    ///
+    /// # Errors
+    ///
+    /// As those of `del_item`.
+    pub fn assign(&mut self, it: Item, v: E) -> Result<E, Gone>
+        ensures { MatchResult result (λ old. Assigns self.old self.new it.serial old v) (λ why. Lacks self.old it.serial why × (self.new ≡ self.old)) }
+    {
+        let node = match self.nodes.get_mut(it) {
+            Ok(node) => node,
+            Err(why) => return Err(why),
+        };
+        Ok(mem::replace(&mut node.value, v))
+    }
+
+    /// How many values there are.
+    pub fn len(&self) -> u32
+        ensures len { result ≡ length self.now.pairs }
+        ensures whole { AreItems self.now }
+    {
+        match self.head {
+            Some(ring) => self.rings.len(ring),
+            None => 0,
+        }
+    }
+}
