@@ -1,2 +1,4 @@
 pub mod Pairs
+pub mod Reversed
 pub mod Steps
+pub mod Turns

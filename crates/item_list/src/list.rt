@@ -1,7 +1,7 @@
 //! The list: a ring of members for the order, and a pool of nodes for the values.
-ghost use Rattle.std.specs.Prelude.{◌≡◌, ℕ, ◌+◌, ◌<◌, ◌≤◌, List, [], ◌∷◌, ◌++◌, length, Some, None, IfOk, IfErr, MatchResult};
+ghost use Rattle.std.specs.Prelude.{◌≡◌, ℕ, ◌+◌, ◌<◌, ◌≤◌, List, [], ◌∷◌, ◌++◌, length, reverse, Some, None, IfOk, IfErr, MatchResult};
 ghost use Rattle.std.specs.FinMap as map;
-ghost use Rattle.item_ring.specs.RingLists.{AreApart, IsHead, front, back};
+ghost use Rattle.item_ring.specs.RingLists.{AreApart, IsHead, ring, front, back};
 ghost use Rattle.item_list.specs.Kept.{Opens, IsHeaded, IsKept, IsNamed, Makes, Comes, Declines, Declined};
 ghost use Rattle.item_list.specs.Items.{items, serials, serial_of, pairs_before, pairs_behind, pairs_with, Holds, HasItem, Lacks, AreItems, Enters, Returns, ReturnsBeside, Removes, Assigns, beside_of, MovesToFront, MovesToRear, IsBehind, IsBefore, IsCyclicBehind, IsCyclicBefore};
 
@@ -106,6 +106,23 @@ fn beside<E>(why: InsertRefusal<E>) -> BesideRefusal<E>
     match why {
         InsertRefusal::NoMemory(value) => BesideRefusal::NoMemory(value),
         InsertRefusal::Spent(value) => BesideRefusal::Spent(value),
+    }
+}
+
+/// Turns the order of a ring round: each member behind the first is put before all others in turn.
+fn reverse_ring(rings: &mut Rings, head: Head)
+    requires head { IsHead rings.old head }
+    requires apart { AreApart rings.old }
+    ensures rings { rings.new.rings ≡ map.insert rings.old.rings head (reverse (ring rings.old head)) }
+    ensures loose { rings.new.loose ≡ rings.old.loose }
+    ensures tags { rings.new.tags ≡ rings.old.tags }
+    ensures apart { AreApart rings.new }
+{
+    if let Some(first) = rings.first(head) {
+        while let Some(next) = rings.next(first) {
+            rings.unlink(next);
+            rings.push_front(head, next);
+        }
     }
 }
 
@@ -394,6 +411,17 @@ impl<E: Drop> List<E> {
             Err(why) => return Err(why),
         };
         Ok(mem::replace(&mut node.value, v))
+    }
+
+    /// Turns the order round. Each item keeps its value.
+    ///
+    /// It takes time in proportion to the number of values. Every other call takes constant time.
+    pub fn reverse_items(&mut self)
+        ensures { self.new ≡ items (reverse self.old.pairs) self.old.made }
+    {
+        if let Some(ring) = self.head {
+            reverse_ring(&mut self.rings, ring);
+        }
     }
 
     /// How many values there are.
