@@ -1,3 +1,4 @@
+pub mod Exits
 pub mod Pairs
 pub mod Reversed
 pub mod Steps

@@ -19,10 +19,10 @@ Rings = FinMap nat_cmp (List ℕ)
 -- a ring that is set twice, and one that is set to what it was
 insert_twice : (m : Rings) (h : ℕ) (xs ys : List ℕ) → map.insert (map.insert m h xs) h ys ≡ map.insert m h ys
 insert_twice m h xs ys = map.same_map nat_cmp_total map.nat_cmp-IsAntisymmetric (map.insert (map.insert m h xs) h ys) (map.insert m h ys) (λ q.
-  elim (eqb_tells q h) [
-    | inl e ↦ ap (map.get (map.insert (map.insert m h xs) h ys)) e.1 ∙ get_new (map.insert m h xs) h ys ∙ sym (get_new m h ys) ∙ ap (map.get (map.insert m h ys)) (sym e.1)
-    | inr e ↦ get_else (map.insert m h xs) h ys q e.1 ∙ get_else m h xs q e.1 ∙ sym (get_else m h ys q e.1)
-  ])
+    elim (eqb_tells q h) [
+      | inl e ↦ ap (map.get (map.insert (map.insert m h xs) h ys)) e.1 ∙ get_new (map.insert m h xs) h ys ∙ sym (get_new m h ys) ∙ ap (map.get (map.insert m h ys)) (sym e.1)
+      | inr e ↦ get_else (map.insert m h xs) h ys q e.1 ∙ get_else m h xs q e.1 ∙ sym (get_else m h ys q e.1)
+    ])
 
 there : (o : Option (List ℕ)) → is_some o ≡ true → (xs : List ℕ) × (o ≡ Some xs)
 there None e = let clash : ⊥ = cc in absurd clash
@@ -33,10 +33,10 @@ insert_same s h e =
     let w = there (map.get s.rings h) e in
     let here : map.get s.rings h ≡ Some (ring s h) = w.1 ∙ ap Some (sym (ap (λ o. Rattle.std.specs.Prelude.unwrap_or o []) w.1)) in
     map.same_map nat_cmp_total map.nat_cmp-IsAntisymmetric (map.insert s.rings h (ring s h)) s.rings (λ q.
-      elim (eqb_tells q h) [
-        | inl f ↦ ap (map.get (map.insert s.rings h (ring s h))) f.1 ∙ get_new s.rings h (ring s h) ∙ sym here ∙ ap (map.get s.rings) (sym f.1)
-        | inr f ↦ get_else s.rings h (ring s h) q f.1
-      ])
+    elim (eqb_tells q h) [
+      | inl f ↦ ap (map.get (map.insert s.rings h (ring s h))) f.1 ∙ get_new s.rings h (ring s h) ∙ sym here ∙ ap (map.get s.rings) (sym f.1)
+      | inr f ↦ get_else s.rings h (ring s h) q f.1
+    ])
 
 -- the members behind m
 abbrev pub behind : ℕ → List ℕ → List ℕ
@@ -121,83 +121,83 @@ module _ (s t : RingLists) (h first : ℕ) (turning : IsTurning s t h first) whe
       let none = front_end turning.rest e in
       let was : ring s h ≡ first ∷ reverse turning.done = turning.was ∙ ap (λ ys. first ∷ (reverse turning.done ++ ys)) none ∙ ap (λ ys. first ∷ ys) (append_none (reverse turning.done)) in
       let turned : reverse (first ∷ reverse turning.done) ≡ turning.done ++ first ∷ [] =
-        reverse-append (first ∷ []) (reverse turning.done) ∙ ap (λ ys. ys ++ first ∷ []) (Rattle.std.proofs.lemmas.List.reverse-reverse turning.done) in
+      reverse-append (first ∷ []) (reverse turning.done) ∙ ap (λ ys. ys ++ first ∷ []) (Rattle.std.proofs.lemmas.List.reverse-reverse turning.done) in
       turning.now ∙ ap (λ ys. map.insert s.rings h (turning.done ++ first ∷ ys)) none ∙ ap (map.insert s.rings h) (sym (ap reverse was ∙ turned))
 
   -- the member behind `first` is taken out and put before all others
   module _ (u w : RingLists) (n : ℕ) (is : Some n ≡ front turning.rest)
       (out : (g : ℕ) → IsLinkedIn t g n → u.rings ≡ map.insert t.rings g (without n (ring t g))) (out_loose : u.loose ≡ n ∷ t.loose) (out_tags : u.tags ≡ t.tags)
-      where
-    rest_now : (ys : List ℕ) × (turning.rest ≡ n ∷ ys)
-    rest_now = front_cut turning.rest n is
+    where
+      rest_now : (ys : List ℕ) × (turning.rest ≡ n ∷ ys)
+      rest_now = front_cut turning.rest n is
 
-    abbrev rest : List ℕ
-    rest = rest_now.0
+      abbrev rest : List ℕ
+      rest = rest_now.0
 
-    regrouped : turning.done ++ first ∷ turning.rest ≡ (turning.done ++ first ∷ []) ++ n ∷ rest
-    regrouped = ap (λ ys. turning.done ++ first ∷ ys) rest_now.1 ∙ sym (appended turning.done (first ∷ []) (n ∷ rest))
+      regrouped : turning.done ++ first ∷ turning.rest ≡ (turning.done ++ first ∷ []) ++ n ∷ rest
+      regrouped = ap (λ ys. turning.done ++ first ∷ ys) rest_now.1 ∙ sym (appended turning.done (first ∷ []) (n ∷ rest))
 
-    ring_out : without n (ring t h) ≡ turning.done ++ first ∷ rest
-    ring_out =
-        ap (without n) (ring_now ∙ regrouped)
-        ∙ without_cut n (turning.done ++ first ∷ []) rest (subst IsDistinct regrouped distinct)
-        ∙ appended turning.done (first ∷ []) rest
+      ring_out : without n (ring t h) ≡ turning.done ++ first ∷ rest
+      ring_out =
+          ap (without n) (ring_now ∙ regrouped)
+          ∙ without_cut n (turning.done ++ first ∷ []) rest (subst IsDistinct regrouped distinct)
+          ∙ appended turning.done (first ∷ []) rest
 
-    rings_out : u.rings ≡ map.insert s.rings h (turning.done ++ first ∷ rest)
-    rings_out =
-        out h (next_in n is) ∙ ap (map.insert t.rings h) ring_out
-        ∙ ap (λ r. map.insert r h (turning.done ++ first ∷ rest)) turning.now
-        ∙ insert_twice s.rings h (turning.done ++ first ∷ turning.rest) (turning.done ++ first ∷ rest)
+      rings_out : u.rings ≡ map.insert s.rings h (turning.done ++ first ∷ rest)
+      rings_out =
+          out h (next_in n is) ∙ ap (map.insert t.rings h) ring_out
+          ∙ ap (λ r. map.insert r h (turning.done ++ first ∷ rest)) turning.now
+          ∙ insert_twice s.rings h (turning.done ++ first ∷ turning.rest) (turning.done ++ first ∷ rest)
 
-    pub head_out : IsHead u h
-    head_out = ap (λ r. is_some (map.get r h)) rings_out ∙ ap is_some (get_new s.rings h (turning.done ++ first ∷ rest))
+      pub head_out : IsHead u h
+      head_out = ap (λ r. is_some (map.get r h)) rings_out ∙ ap is_some (get_new s.rings h (turning.done ++ first ∷ rest))
 
-    pub loose_out : IsLoose u n
-    loose_out = subst (IsIn n) (sym out_loose) (inl refl)
+      pub loose_out : IsLoose u n
+      loose_out = subst (IsIn n) (sym out_loose) (inl refl)
 
-    loose_back : without n u.loose ≡ t.loose
-    loose_back =
-        ap (without n) out_loose
-        ∙ elim (eqb_tells n n) [ inl e ↦ ap (λ b. cond b (without n t.loose) (n ∷ without n t.loose)) e.0 | inr e ↦ absurd (e.1 refl) ]
-        ∙ without_out n t.loose (turning.apart.not_loose h n (next_in n is))
+      loose_back : without n u.loose ≡ t.loose
+      loose_back =
+          ap (without n) out_loose
+          ∙ elim (eqb_tells n n) [ inl e ↦ ap (λ b. cond b (without n t.loose) (n ∷ without n t.loose)) e.0 | inr e ↦ absurd (e.1 refl) ]
+          ∙ without_out n t.loose (turning.apart.not_loose h n (next_in n is))
 
-    was_now : ring s h ≡ first ∷ (reverse (n ∷ turning.done) ++ rest)
-    was_now =
-        turning.was ∙ ap (λ ys. first ∷ (reverse turning.done ++ ys)) rest_now.1
-        ∙ ap (λ ys. first ∷ ys) (sym (appended (reverse turning.done) (n ∷ []) rest))
-        ∙ ap (λ ys. first ∷ (ys ++ rest)) (sym (reverse-append (n ∷ []) turning.done))
+      was_now : ring s h ≡ first ∷ (reverse (n ∷ turning.done) ++ rest)
+      was_now =
+          turning.was ∙ ap (λ ys. first ∷ (reverse turning.done ++ ys)) rest_now.1
+          ∙ ap (λ ys. first ∷ ys) (sym (appended (reverse turning.done) (n ∷ []) rest))
+          ∙ ap (λ ys. first ∷ (ys ++ rest)) (sym (reverse-append (n ∷ []) turning.done))
 
-    ring_out_now : ring u h ≡ turning.done ++ first ∷ rest
-    ring_out_now = ap (λ r. list_in r h) rings_out ∙ list_new s.rings h (turning.done ++ first ∷ rest)
+      ring_out_now : ring u h ≡ turning.done ++ first ∷ rest
+      ring_out_now = ap (λ r. list_in r h) rings_out ∙ list_new s.rings h (turning.done ++ first ∷ rest)
 
-    module _ (rings : w.rings ≡ map.insert u.rings h (n ∷ ring u h)) (loose : w.loose ≡ without n u.loose) (tags : w.tags ≡ u.tags) (apart : AreApart w) where
-      pub turns_on : IsTurning s w h first
-      turns_on = record {
-        head = turning.head;
-        done = n ∷ turning.done;
-        rest = rest;
-        was = was_now;
-        now = rings ∙ ap (λ ys. map.insert u.rings h (n ∷ ys)) ring_out_now ∙ ap (λ r. map.insert r h (n ∷ turning.done ++ first ∷ rest)) rings_out
-            ∙ insert_twice s.rings h (turning.done ++ first ∷ rest) (n ∷ turning.done ++ first ∷ rest);
-        loose = loose ∙ loose_back ∙ turning.loose;
-        tags = tags ∙ out_tags ∙ turning.tags;
-        apart = apart;
-      }
+      module _ (rings : w.rings ≡ map.insert u.rings h (n ∷ ring u h)) (loose : w.loose ≡ without n u.loose) (tags : w.tags ≡ u.tags) (apart : AreApart w) where
+        pub turns_on : IsTurning s w h first
+        turns_on = record {
+          head = turning.head;
+          done = n ∷ turning.done;
+          rest = rest;
+          was = was_now;
+          now = rings ∙ ap (λ ys. map.insert u.rings h (n ∷ ys)) ring_out_now ∙ ap (λ r. map.insert r h (n ∷ turning.done ++ first ∷ rest)) rings_out
+              ∙ insert_twice s.rings h (turning.done ++ first ∷ rest) (n ∷ turning.done ++ first ∷ rest);
+          loose = loose ∙ loose_back ∙ turning.loose;
+          tags = tags ∙ out_tags ∙ turning.tags;
+          apart = apart;
+        }
 
-      ring_back : ring w h ≡ n ∷ turning.done ++ first ∷ rest
-      ring_back = ap (λ r. list_in r h) rings ∙ list_new u.rings h (n ∷ ring u h) ∙ ap (λ ys. n ∷ ys) ring_out_now
+        ring_back : ring w h ≡ n ∷ turning.done ++ first ∷ rest
+        ring_back = ap (λ r. list_in r h) rings ∙ list_new u.rings h (n ∷ ring u h) ∙ ap (λ ys. n ∷ ys) ring_out_now
 
-      head_back : IsHead w h
-      head_back = ap (λ r. is_some (map.get r h)) rings ∙ ap is_some (get_new u.rings h (n ∷ ring u h))
+        head_back : IsHead w h
+        head_back = ap (λ r. is_some (map.get r h)) rings ∙ ap is_some (get_new u.rings h (n ∷ ring u h))
 
-      distinct_back : IsDistinct (n ∷ turning.done ++ first ∷ rest)
-      distinct_back = subst IsDistinct ring_back (apart.distinct h head_back)
+        distinct_back : IsDistinct (n ∷ turning.done ++ first ∷ rest)
+        distinct_back = subst IsDistinct ring_back (apart.distinct h head_back)
 
-      behind_back : behind first (ring w h) ≡ rest
-      behind_back = ap (behind first) ring_back ∙ behind_cut first (n ∷ turning.done) rest (λ i. out_apart first (n ∷ turning.done) rest distinct_back (in_left first (n ∷ turning.done) rest i))
+        behind_back : behind first (ring w h) ≡ rest
+        behind_back = ap (behind first) ring_back ∙ behind_cut first (n ∷ turning.done) rest (λ i. out_apart first (n ∷ turning.done) rest distinct_back (in_left first (n ∷ turning.done) rest i))
 
-      pub falls : length (behind first (ring w h)) < length (behind first (ring t h))
-      falls =
-          let now : length (behind first (ring w h)) ≡ length rest = ap length behind_back in
-          let was : length (behind first (ring t h)) ≡ length (n ∷ rest) = ap length (left_behind ∙ rest_now.1) in
-          omega (arith, now, was)
+        pub falls : length (behind first (ring w h)) < length (behind first (ring t h))
+        falls =
+            let now : length (behind first (ring w h)) ≡ length rest = ap length behind_back in
+            let was : length (behind first (ring t h)) ≡ length (n ∷ rest) = ap length (left_behind ∙ rest_now.1) in
+            omega (arith, now, was)

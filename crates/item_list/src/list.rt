@@ -3,7 +3,7 @@ ghost use Rattle.std.specs.Prelude.{◌≡◌, ℕ, ◌+◌, ◌<◌, ◌≤◌,
 ghost use Rattle.std.specs.FinMap as map;
 ghost use Rattle.item_ring.specs.RingLists.{AreApart, IsHead, ring, front, back};
 ghost use Rattle.item_list.specs.Kept.{Opens, IsHeaded, IsKept, IsNamed, Makes, Comes, Declines, Declined};
-ghost use Rattle.item_list.specs.Items.{items, serials, serial_of, pairs_before, pairs_behind, pairs_with, Holds, HasItem, Lacks, AreItems, Enters, Returns, ReturnsBeside, Removes, Assigns, beside_of, MovesToFront, MovesToRear, IsBehind, IsBefore, IsCyclicBehind, IsCyclicBefore};
+ghost use Rattle.item_list.specs.Items.{items, serials, serial_of, pairs_before, pairs_behind, pairs_with, Holds, HasItem, Lacks, AreItems, Enters, Returns, ReturnsBeside, Removes, Assigns, MovesToFront, MovesToRear, IsBehind, IsBefore, IsCyclicBehind, IsCyclicBefore};
 
 use crate::node::{BesideRefusal, Node};
 use item_pool::{Gone, InsertRefusal, Item, MOST_SERIALS, Pool};
@@ -66,13 +66,11 @@ fn make_node<E>(
     if nodes.spare() == 0 && nodes.reserve(1).is_err() {
         return Err(InsertRefusal::NoMemory(value));
     }
-    match rings.add_member(nodes.made() + 1) {
-        Ok(member) => {
-            let item = nodes.insert_reserved(Node { value, member });
-            Ok((member, item))
-        }
-        Err(_) => Err(InsertRefusal::NoMemory(value)),
-    }
+    let Ok(member) = rings.add_member(nodes.made() + 1) else {
+        return Err(InsertRefusal::NoMemory(value));
+    };
+    let item = nodes.insert_reserved(Node { value, member });
+    Ok((member, item))
 }
 
 /// Takes a value in under the next serial, with a member that is loose, and makes the ring where there is none.
@@ -89,24 +87,11 @@ fn enter<E>(
     if nodes.made() == MOST_SERIALS {
         return Err(InsertRefusal::Spent(value));
     }
-    let ring = match open_ring(rings, head) {
-        Ok(ring) => ring,
-        Err(_) => return Err(InsertRefusal::NoMemory(value)),
+    let Ok(ring) = open_ring(rings, head) else {
+        return Err(InsertRefusal::NoMemory(value));
     };
-    match make_node(rings, nodes, value) {
-        Ok((member, item)) => Ok((ring, member, item)),
-        Err(why) => Err(why),
-    }
-}
-
-/// The refusal of a value that was to stand beside an item.
-fn beside<E>(why: InsertRefusal<E>) -> BesideRefusal<E>
-    ensures { result ≡ beside_of why }
-{
-    match why {
-        InsertRefusal::NoMemory(value) => BesideRefusal::NoMemory(value),
-        InsertRefusal::Spent(value) => BesideRefusal::Spent(value),
-    }
+    let (member, item) = make_node(rings, nodes, value)?;
+    Ok((ring, member, item))
 }
 
 /// Turns the order of a ring round: each member behind the first is put before all others in turn.
@@ -159,13 +144,9 @@ impl<E: Drop> List<E> {
         ensures ok { IfOk result (λ it. Enters self.old self.new it ((self.old.made + 1, v) ∷ self.old.pairs)) }
         ensures err { IfErr result (λ why. Returns self.old v why × (self.new ≡ self.old)) }
     {
-        match enter(&mut self.rings, &mut self.head, &mut self.nodes, v) {
-            Ok((ring, member, item)) => {
-                self.rings.push_front(ring, member);
-                Ok(item)
-            }
-            Err(why) => Err(why),
-        }
+        let (ring, member, item) = enter(&mut self.rings, &mut self.head, &mut self.nodes, v)?;
+        self.rings.push_front(ring, member);
+        Ok(item)
     }
 
     /// Puts a value at the rear.
@@ -177,13 +158,46 @@ impl<E: Drop> List<E> {
         ensures ok { IfOk result (λ it. Enters self.old self.new it (self.old.pairs ++ (self.old.made + 1, v) ∷ [])) }
         ensures err { IfErr result (λ why. Returns self.old v why × (self.new ≡ self.old)) }
     {
-        match enter(&mut self.rings, &mut self.head, &mut self.nodes, v) {
-            Ok((ring, member, item)) => {
-                self.rings.push_back(ring, member);
-                Ok(item)
-            }
-            Err(why) => Err(why),
-        }
+        let (ring, member, item) = enter(&mut self.rings, &mut self.head, &mut self.nodes, v)?;
+        self.rings.push_back(ring, member);
+        Ok(item)
+    }
+
+    /// Puts a value right before an item.
+    ///
+    /// # Errors
+    ///
+    /// `Gone` where the item isn't in the list, as of `del_item`. Else `Spent` exactly where 16,777,215 items were made,
+    /// and `NoMemory` where there is no memory. The value comes back, and the list is as before.
+    pub fn insert_before(&mut self, at: Item, v: E) -> Result<Item, BesideRefusal<E>>
+        ensures ok { IfOk result (λ it. HasItem self.old at.serial × Enters self.old self.new it (pairs_before at.serial (self.old.made + 1, v) self.old.pairs)) }
+        ensures err { IfErr result (λ why. ReturnsBeside self.old at.serial v why × (self.new ≡ self.old)) }
+    {
+        let place = match self.nodes.get(at) {
+            Ok(node) => node.member,
+            Err(why) => return Err(BesideRefusal::Gone(v, why)),
+        };
+        let (_ring, member, item) = enter(&mut self.rings, &mut self.head, &mut self.nodes, v)?;
+        self.rings.insert_before(place, member);
+        Ok(item)
+    }
+
+    /// Puts a value right behind an item.
+    ///
+    /// # Errors
+    ///
+    /// As those of `insert_before`.
+    pub fn insert_behind(&mut self, at: Item, v: E) -> Result<Item, BesideRefusal<E>>
+        ensures ok { IfOk result (λ it. HasItem self.old at.serial × Enters self.old self.new it (pairs_behind at.serial (self.old.made + 1, v) self.old.pairs)) }
+        ensures err { IfErr result (λ why. ReturnsBeside self.old at.serial v why × (self.new ≡ self.old)) }
+    {
+        let place = match self.nodes.get(at) {
+            Ok(node) => node.member,
+            Err(why) => return Err(BesideRefusal::Gone(v, why)),
+        };
+        let (_ring, member, item) = enter(&mut self.rings, &mut self.head, &mut self.nodes, v)?;
+        self.rings.insert_after(place, member);
+        Ok(item)
     }
 
     /// Takes a value out. Its serial isn't given again.
@@ -195,14 +209,10 @@ impl<E: Drop> List<E> {
     pub fn del_item(&mut self, it: Item) -> Result<E, Gone>
         ensures { MatchResult result (λ v. Removes self.old self.new it.serial v) (λ why. Lacks self.old it.serial why × (self.new ≡ self.old)) }
     {
-        match self.nodes.remove(it) {
-            Ok(node) => {
-                self.rings.unlink(node.member);
-                self.rings.drop_member(node.member);
-                Ok(node.value)
-            }
-            Err(why) => Err(why),
-        }
+        let node = self.nodes.remove(it)?;
+        self.rings.unlink(node.member);
+        self.rings.drop_member(node.member);
+        Ok(node.value)
     }
 
     /// The value of an item.
@@ -213,23 +223,38 @@ impl<E: Drop> List<E> {
     pub fn contents(&self, it: Item) -> Result<&E, Gone>
         ensures { MatchResult result (λ v. Holds self.now it.serial v.now) (λ why. Lacks self.now it.serial why) }
     {
-        match self.nodes.get(it) {
-            Ok(node) => Ok(&node.value),
-            Err(why) => Err(why),
-        }
+        let node = self.nodes.get(it)?;
+        Ok(&node.value)
+    }
+
+    /// Gives an item another value. The old one comes back.
+    ///
+    /// # Errors
+    ///
+    /// As those of `del_item`.
+    pub fn assign(&mut self, it: Item, v: E) -> Result<E, Gone>
+        ensures { MatchResult result (λ old. Assigns self.old self.new it.serial old v) (λ why. Lacks self.old it.serial why × (self.new ≡ self.old)) }
+    {
+        let node = self.nodes.get_mut(it)?;
+        Ok(mem::replace(&mut node.value, v))
     }
 
     /// The first item, and none exactly where the list is empty.
     pub fn first(&self) -> Option<Item>
         ensures { serial_of result ≡ front (serials self.now.pairs) }
     {
-        match self.head {
-            Some(ring) => match self.rings.first(ring) {
-                Some(member) => Some(item_at(&self.rings, &self.nodes, member)),
-                None => None,
-            },
-            None => None,
-        }
+        let ring = self.head?;
+        let member = self.rings.first(ring)?;
+        Some(item_at(&self.rings, &self.nodes, member))
+    }
+
+    /// The last item, and none exactly where the list is empty.
+    pub fn last(&self) -> Option<Item>
+        ensures { serial_of result ≡ back (serials self.now.pairs) }
+    {
+        let ring = self.head?;
+        let member = self.rings.last(ring)?;
+        Some(item_at(&self.rings, &self.nodes, member))
     }
 
     /// The item behind, and none exactly where the item is the last.
@@ -240,65 +265,10 @@ impl<E: Drop> List<E> {
     pub fn succ(&self, it: Item) -> Result<Option<Item>, Gone>
         ensures { MatchResult result (λ r. IsBehind self.now it.serial r) (λ why. Lacks self.now it.serial why) }
     {
-        match self.nodes.get(it) {
-            Ok(node) => match self.rings.next(node.member) {
-                Some(next) => Ok(Some(item_at(&self.rings, &self.nodes, next))),
-                None => Ok(None),
-            },
-            Err(why) => Err(why),
-        }
-    }
-
-    /// Moves an item before all others.
-    ///
-    /// # Errors
-    ///
-    /// As those of `del_item`.
-    pub fn move_to_front(&mut self, it: Item) -> Result<(), Gone>
-        ensures { MatchResult result (λ _. MovesToFront self.old self.new it.serial) (λ why. Lacks self.old it.serial why × (self.new ≡ self.old)) }
-    {
-        match self.nodes.get(it) {
-            Ok(node) => {
-                let member = node.member;
-                let ring = self.rings.head_of(member);
-                self.rings.unlink(member);
-                self.rings.push_front(ring, member);
-                Ok(())
-            }
-            Err(why) => Err(why),
-        }
-    }
-
-    /// Moves an item behind all others.
-    ///
-    /// # Errors
-    ///
-    /// As those of `del_item`.
-    pub fn move_to_rear(&mut self, it: Item) -> Result<(), Gone>
-        ensures { MatchResult result (λ _. MovesToRear self.old self.new it.serial) (λ why. Lacks self.old it.serial why × (self.new ≡ self.old)) }
-    {
-        match self.nodes.get(it) {
-            Ok(node) => {
-                let member = node.member;
-                let ring = self.rings.head_of(member);
-                self.rings.unlink(member);
-                self.rings.push_back(ring, member);
-                Ok(())
-            }
-            Err(why) => Err(why),
-        }
-    }
-
-    /// The last item, and none exactly where the list is empty.
-    pub fn last(&self) -> Option<Item>
-        ensures { serial_of result ≡ back (serials self.now.pairs) }
-    {
-        match self.head {
-            Some(ring) => match self.rings.last(ring) {
-                Some(member) => Some(item_at(&self.rings, &self.nodes, member)),
-                None => None,
-            },
-            None => None,
+        let node = self.nodes.get(it)?;
+        match self.rings.next(node.member) {
+            Some(next) => Ok(Some(item_at(&self.rings, &self.nodes, next))),
+            None => Ok(None),
         }
     }
 
@@ -310,12 +280,10 @@ impl<E: Drop> List<E> {
     pub fn pred(&self, it: Item) -> Result<Option<Item>, Gone>
         ensures { MatchResult result (λ r. IsBefore self.now it.serial r) (λ why. Lacks self.now it.serial why) }
     {
-        match self.nodes.get(it) {
-            Ok(node) => match self.rings.prev(node.member) {
-                Some(prev) => Ok(Some(item_at(&self.rings, &self.nodes, prev))),
-                None => Ok(None),
-            },
-            Err(why) => Err(why),
+        let node = self.nodes.get(it)?;
+        match self.rings.prev(node.member) {
+            Some(prev) => Ok(Some(item_at(&self.rings, &self.nodes, prev))),
+            None => Ok(None),
         }
     }
 
@@ -327,13 +295,9 @@ impl<E: Drop> List<E> {
     pub fn cyclic_succ(&self, it: Item) -> Result<Item, Gone>
         ensures { MatchResult result (λ r. IsCyclicBehind self.now it.serial r) (λ why. Lacks self.now it.serial why) }
     {
-        match self.nodes.get(it) {
-            Ok(node) => {
-                let next = self.rings.cyclic_next(node.member);
-                Ok(item_at(&self.rings, &self.nodes, next))
-            }
-            Err(why) => Err(why),
-        }
+        let node = self.nodes.get(it)?;
+        let next = self.rings.cyclic_next(node.member);
+        Ok(item_at(&self.rings, &self.nodes, next))
     }
 
     /// The item before, and the last before the first.
@@ -344,73 +308,41 @@ impl<E: Drop> List<E> {
     pub fn cyclic_pred(&self, it: Item) -> Result<Item, Gone>
         ensures { MatchResult result (λ r. IsCyclicBefore self.now it.serial r) (λ why. Lacks self.now it.serial why) }
     {
-        match self.nodes.get(it) {
-            Ok(node) => {
-                let prev = self.rings.cyclic_prev(node.member);
-                Ok(item_at(&self.rings, &self.nodes, prev))
-            }
-            Err(why) => Err(why),
-        }
+        let node = self.nodes.get(it)?;
+        let prev = self.rings.cyclic_prev(node.member);
+        Ok(item_at(&self.rings, &self.nodes, prev))
     }
 
-    /// Puts a value right behind an item.
-    ///
-    /// # Errors
-    ///
-    /// `Gone` where the item isn't in the list, as of `del_item`. Else `Spent` exactly where 16,777,215 items were made,
-    /// and `NoMemory` where there is no memory. The value comes back, and the list is as before.
-    pub fn insert_behind(&mut self, at: Item, v: E) -> Result<Item, BesideRefusal<E>>
-        ensures ok { IfOk result (λ it. HasItem self.old at.serial × Enters self.old self.new it (pairs_behind at.serial (self.old.made + 1, v) self.old.pairs)) }
-        ensures err { IfErr result (λ why. ReturnsBeside self.old at.serial v why × (self.new ≡ self.old)) }
-    {
-        let place = match self.nodes.get(at) {
-            Ok(node) => node.member,
-            Err(why) => return Err(BesideRefusal::Gone(v, why)),
-        };
-        match enter(&mut self.rings, &mut self.head, &mut self.nodes, v) {
-            Ok((_, member, item)) => {
-                self.rings.insert_after(place, member);
-                Ok(item)
-            }
-            Err(why) => Err(beside(why)),
-        }
-    }
-
-    /// Puts a value right before an item.
-    ///
-    /// # Errors
-    ///
-    /// As those of `insert_behind`.
-    pub fn insert_before(&mut self, at: Item, v: E) -> Result<Item, BesideRefusal<E>>
-        ensures ok { IfOk result (λ it. HasItem self.old at.serial × Enters self.old self.new it (pairs_before at.serial (self.old.made + 1, v) self.old.pairs)) }
-        ensures err { IfErr result (λ why. ReturnsBeside self.old at.serial v why × (self.new ≡ self.old)) }
-    {
-        let place = match self.nodes.get(at) {
-            Ok(node) => node.member,
-            Err(why) => return Err(BesideRefusal::Gone(v, why)),
-        };
-        match enter(&mut self.rings, &mut self.head, &mut self.nodes, v) {
-            Ok((_, member, item)) => {
-                self.rings.insert_before(place, member);
-                Ok(item)
-            }
-            Err(why) => Err(beside(why)),
-        }
-    }
-
-    /// Gives an item another value. The old one comes back.
+    /// Moves an item before all others.
     ///
     /// # Errors
     ///
     /// As those of `del_item`.
-    pub fn assign(&mut self, it: Item, v: E) -> Result<E, Gone>
-        ensures { MatchResult result (λ old. Assigns self.old self.new it.serial old v) (λ why. Lacks self.old it.serial why × (self.new ≡ self.old)) }
+    pub fn move_to_front(&mut self, it: Item) -> Result<(), Gone>
+        ensures { MatchResult result (λ _. MovesToFront self.old self.new it.serial) (λ why. Lacks self.old it.serial why × (self.new ≡ self.old)) }
     {
-        let node = match self.nodes.get_mut(it) {
-            Ok(node) => node,
-            Err(why) => return Err(why),
-        };
-        Ok(mem::replace(&mut node.value, v))
+        let node = self.nodes.get(it)?;
+        let member = node.member;
+        let ring = self.rings.head_of(member);
+        self.rings.unlink(member);
+        self.rings.push_front(ring, member);
+        Ok(())
+    }
+
+    /// Moves an item behind all others.
+    ///
+    /// # Errors
+    ///
+    /// As those of `del_item`.
+    pub fn move_to_rear(&mut self, it: Item) -> Result<(), Gone>
+        ensures { MatchResult result (λ _. MovesToRear self.old self.new it.serial) (λ why. Lacks self.old it.serial why × (self.new ≡ self.old)) }
+    {
+        let node = self.nodes.get(it)?;
+        let member = node.member;
+        let ring = self.rings.head_of(member);
+        self.rings.unlink(member);
+        self.rings.push_back(ring, member);
+        Ok(())
     }
 
     /// Turns the order round. Each item keeps its value.

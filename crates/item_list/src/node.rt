@@ -1,6 +1,6 @@
 //! What is kept for an item, and why a value wasn't put beside one.
 
-use item_pool::Gone;
+use item_pool::{Gone, InsertRefusal};
 use item_ring::Member;
 
 /// The value of an item, and its place in the ring.
@@ -19,4 +19,18 @@ pub enum BesideRefusal<E> {
     NoMemory(E),
     /// Each serial has been given.
     Spent(E),
+}
+
+impl<E> From<InsertRefusal<E>> for BesideRefusal<E> {
+    ghost use Rattle.std.specs.Prelude.{◌≡◌};
+    ghost use Rattle.item_list.specs.Items.{beside_of};
+
+    ghost from_gives = { λ why refusal. refusal ≡ beside_of why };
+
+    fn from(why: InsertRefusal<E>) -> BesideRefusal<E> {
+        match why {
+            InsertRefusal::NoMemory(value) => BesideRefusal::NoMemory(value),
+            InsertRefusal::Spent(value) => BesideRefusal::Spent(value),
+        }
+    }
 }

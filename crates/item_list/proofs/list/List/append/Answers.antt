@@ -5,18 +5,18 @@ use Rattle.item_list.specs.Kept.{items_of}
 use Rattle.item_list.proofs.Steps.{at_rear, kept_out}
 use Rattle.item_list.proofs.list.List.append.Goals as goal
 
+pub invariant_of-self-2 : goal.invariant_of-self-2
+invariant_of-self-2 g c =
+    let a = c.self.inside in
+    (at_rear a.rings c.enter.new.rings c.push_back.new.self a.head c.enter.new.head a.nodes c.enter.new.nodes c.in_ok-ring.ring c.in_ok-ring.member c.in_ok-ring.item c.args.v c.self.invariant c.in_ok-ring.ensures.ok c.push_back.ensures.tags c.push_back.ensures.apart c.push_back.ensures.rings).0
+
 pub invariant_of-self : goal.invariant_of-self
 invariant_of-self g c =
     let a = c.self.inside in
-    (at_rear a.rings c.enter.new.rings c.push_back.new.self a.head c.enter.new.head a.nodes c.enter.new.nodes c.in-Ok.ring-1-given.0.0.0 c.in-Ok.ring-1-given.0.0.1 c.in-Ok.ring-1-given.0.0.2 c.args.v c.self.invariant c.in-Ok.ensures.ok c.push_back.ensures.tags c.push_back.ensures.apart c.push_back.ensures.rings).0
+    kept_out a.rings c.enter.new.rings a.head c.enter.new.head a.nodes c.enter.new.nodes c.args.v c.in_err-ring.field-0.0 c.self.invariant c.in_err-ring.ensures.err
 
-pub invariant_of-self-in-Err : goal.invariant_of-self-in-Err
-invariant_of-self-in-Err g c =
+pub returns-clause-ok : goal.returns-clause-ok
+returns-clause-ok g c =
     let a = c.self.inside in
-    kept_out a.rings c.enter.new.rings a.head c.enter.new.head a.nodes c.enter.new.nodes c.args.v c.in-Err.why c.self.invariant c.in-Err.ensures.err
-
-pub returns-in-Ok-clause-ok : goal.returns-in-Ok-clause-ok
-returns-in-Ok-clause-ok g c =
-    let a = c.self.inside in
-    subst (λ (l : Items g.row.E.Denot). Enters l (items_of c.push_back.new.self c.enter.new.head c.enter.new.nodes) c.in-Ok.ring-1-given.0.0.2 (l.pairs ++ (l.made + 1, c.args.v) ∷ [])) c.self.view_is
-    (at_rear a.rings c.enter.new.rings c.push_back.new.self a.head c.enter.new.head a.nodes c.enter.new.nodes c.in-Ok.ring-1-given.0.0.0 c.in-Ok.ring-1-given.0.0.1 c.in-Ok.ring-1-given.0.0.2 c.args.v c.self.invariant c.in-Ok.ensures.ok c.push_back.ensures.tags c.push_back.ensures.apart c.push_back.ensures.rings).1
+    subst (λ (l : Items g.row.E.Denot). Enters l (items_of c.push_back.new.self c.enter.new.head c.enter.new.nodes) c.in_ok-ring.item (l.pairs ++ (l.made + 1, c.args.v) ∷ [])) c.self.view_is
+    (at_rear a.rings c.enter.new.rings c.push_back.new.self a.head c.enter.new.head a.nodes c.enter.new.nodes c.in_ok-ring.ring c.in_ok-ring.member c.in_ok-ring.item c.args.v c.self.invariant c.in_ok-ring.ensures.ok c.push_back.ensures.tags c.push_back.ensures.apart c.push_back.ensures.rings).1

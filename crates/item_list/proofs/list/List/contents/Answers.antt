@@ -1,15 +1,18 @@
 -- The pool has the value under the serial.
 use Rattle.std.proofs.Common.{subst}
 use Rattle.item_list.specs.Items.{Items, Holds, Lacks}
+use Rattle.item_list.proofs.Exits.{err_out}
 use Rattle.item_list.proofs.Steps.{holds, lacks}
 use Rattle.item_list.proofs.list.List.contents.Goals as goal
 
-pub returns-in-Ok : goal.returns-in-Ok
-returns-in-Ok g c =
+pub returns : goal.returns
+returns g c =
     let a = c.self.inside in
-    subst (λ (l : Items g.row.E.Denot). Holds l c.args.it.serial c.in-Ok.node.now.value) c.self.view_is (holds a.rings a.head a.nodes c.self.invariant c.args.it.serial c.in-Ok.node.now c.in-Ok.ensures.0)
+    subst (λ (l : Items g.row.E.Denot). Holds l c.args.it.serial c.in_ok-node.node.now.value) c.self.view_is (holds a.rings a.head a.nodes c.self.invariant c.args.it.serial c.in_ok-node.node.now c.in_ok-node.ensures.0)
 
-pub returns-in-Err : goal.returns-in-Err
-returns-in-Err g c =
+pub returns-in_err-node : goal.returns-in_err-node
+returns-in_err-node g c =
     let a = c.self.inside in
-    subst (λ (l : Items g.row.E.Denot). Lacks l c.args.it.serial c.in-Err.why) c.self.view_is (lacks a.rings a.head a.nodes c.self.invariant c.args.it.serial c.in-Err.why c.in-Err.ensures)
+    let why = c.in_err-node.field-0.0 in
+    err_out c.from_residual.result (λ v. Holds c.args.self.now c.args.it.serial v.now) (Lacks c.args.self.now c.args.it.serial) why c.from_residual.ensures.1
+    (subst (λ (l : Items g.row.E.Denot). Lacks l c.args.it.serial why) c.self.view_is (lacks a.rings a.head a.nodes c.self.invariant c.args.it.serial why c.in_err-node.ensures))

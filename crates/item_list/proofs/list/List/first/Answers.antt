@@ -5,4 +5,4 @@ use Rattle.item_list.proofs.list.List.first.Goals as goal
 pub item_at-requires : goal.item_at-requires
 item_at-requires g c =
     let a = c.self.inside in
-    first_named a.rings a.head a.nodes c.self.invariant c.in-Some.ring c.in-Some-first.member c.in-Some.is c.in-Some-first.ensures.first
+    first_named a.rings a.head a.nodes c.self.invariant c.in_ok-ring.ring c.in_ok-member.member c.in_ok-ring.was c.in_ok-member.ensures.first

@@ -1,7 +1,8 @@
 -- The new member is linked beside the item's.
-use Rattle.std.proofs.Common.{◌+◌, refl, sym, subst, ◌∙◌}
-use Rattle.item_list.specs.Items.{Items, Enters, HasItem, Lacks, ReturnsBeside, pairs_before}
+use Rattle.std.proofs.Common.{◌≡◌, ◌+◌, refl, subst, ◌∙◌}
+use Rattle.item_list.specs.Items.{Items, Enters, HasItem, Lacks, ReturnsBeside, beside_of, pairs_before}
 use Rattle.item_list.specs.Kept.{items_of}
+use Rattle.item_list.proofs.Exits.{err_out}
 use Rattle.item_list.proofs.Steps.{holds, lacks, beside_linked, at_before, beside_returns, kept_out, items_out}
 use Rattle.item_list.proofs.list.List.insert_before.Goals as goal
 
@@ -13,30 +14,32 @@ returns-in-Err-clause-err g c =
 pub insert_before-requires-clause-at : goal.insert_before-requires-clause-at
 insert_before-requires-clause-at g c =
     let a = c.self.inside in
-    (c.in-Ok-enter.member-1-given.0.0.0, beside_linked a.rings c.enter.new.rings c.enter.new.rings a.head c.enter.new.head a.nodes c.enter.new.nodes c.in-Ok-enter.member-1-given.0.0.0 c.in-Ok-enter.member-1-given.0.0.1 c.in-Ok-enter.member-1-given.0.0.2 c.args.v c.self.invariant c.in-Ok-enter.ensures.ok refl c.in-Ok-enter.ensures.ok.makes.apart c.args.at.serial c.in-Ok.node.now c.in-Ok.ensures.0)
+    (c.in_ok-_ring._ring, beside_linked a.rings c.enter.new.rings c.enter.new.rings a.head c.enter.new.head a.nodes c.enter.new.nodes c.in_ok-_ring._ring c.in_ok-_ring.member c.in_ok-_ring.item c.args.v c.self.invariant c.in_ok-_ring.ensures.ok refl c.in_ok-_ring.ensures.ok.makes.apart c.args.at.serial c.in-Ok.node.now c.in-Ok.ensures.0)
+
+pub invariant_of-self-2 : goal.invariant_of-self-2
+invariant_of-self-2 g c =
+    let a = c.self.inside in
+    (at_before a.rings c.enter.new.rings c.insert_before.new.self a.head c.enter.new.head a.nodes c.enter.new.nodes c.in_ok-_ring._ring c.in_ok-_ring.member c.in_ok-_ring.item c.args.v c.self.invariant c.in_ok-_ring.ensures.ok c.insert_before.ensures.tags c.insert_before.ensures.apart c.args.at.serial c.in-Ok.node.now c.in-Ok.ensures.0 c.insert_before.ensures.rings).0
 
 pub invariant_of-self : goal.invariant_of-self
 invariant_of-self g c =
     let a = c.self.inside in
-    (at_before a.rings c.enter.new.rings c.insert_before.new.self a.head c.enter.new.head a.nodes c.enter.new.nodes c.in-Ok-enter.member-1-given.0.0.0 c.in-Ok-enter.member-1-given.0.0.1 c.in-Ok-enter.member-1-given.0.0.2 c.args.v c.self.invariant c.in-Ok-enter.ensures.ok c.insert_before.ensures.tags c.insert_before.ensures.apart c.args.at.serial c.in-Ok.node.now c.in-Ok.ensures.0 c.insert_before.ensures.rings).0
+    kept_out a.rings c.enter.new.rings a.head c.enter.new.head a.nodes c.enter.new.nodes c.args.v c.in_err-_ring.field-0.0 c.self.invariant c.in_err-_ring.ensures.err
 
-pub invariant_of-self-in-Err-enter : goal.invariant_of-self-in-Err-enter
-invariant_of-self-in-Err-enter g c =
+pub returns-clause-ok : goal.returns-clause-ok
+returns-clause-ok g c =
     let a = c.self.inside in
-    kept_out a.rings c.enter.new.rings a.head c.enter.new.head a.nodes c.enter.new.nodes c.args.v c.in-Err-enter.why c.self.invariant c.in-Err-enter.ensures.err
+    subst (λ (l : Items g.row.E.Denot). HasItem l c.args.at.serial × Enters l (items_of c.insert_before.new.self c.enter.new.head c.enter.new.nodes) c.in_ok-_ring.item (pairs_before c.args.at.serial (l.made + 1, c.args.v) l.pairs)) c.self.view_is
+    ((c.in-Ok.node.now.value, holds a.rings a.head a.nodes c.self.invariant c.args.at.serial c.in-Ok.node.now c.in-Ok.ensures.0), (at_before a.rings c.enter.new.rings c.insert_before.new.self a.head c.enter.new.head a.nodes c.enter.new.nodes c.in_ok-_ring._ring c.in_ok-_ring.member c.in_ok-_ring.item c.args.v c.self.invariant c.in_ok-_ring.ensures.ok c.insert_before.ensures.tags c.insert_before.ensures.apart c.args.at.serial c.in-Ok.node.now c.in-Ok.ensures.0 c.insert_before.ensures.rings).1)
 
-pub returns-in-Ok-enter-clause-ok : goal.returns-in-Ok-enter-clause-ok
-returns-in-Ok-enter-clause-ok g c =
+pub returns-in_err-_ring-clause-err : goal.returns-in_err-_ring-clause-err
+returns-in_err-_ring-clause-err g c =
     let a = c.self.inside in
-    subst (λ (l : Items g.row.E.Denot). HasItem l c.args.at.serial × Enters l (items_of c.insert_before.new.self c.enter.new.head c.enter.new.nodes) c.in-Ok-enter.member-1-given.0.0.2 (pairs_before c.args.at.serial (l.made + 1, c.args.v) l.pairs)) c.self.view_is
-    ((c.in-Ok.node.now.value, holds a.rings a.head a.nodes c.self.invariant c.args.at.serial c.in-Ok.node.now c.in-Ok.ensures.0), (at_before a.rings c.enter.new.rings c.insert_before.new.self a.head c.enter.new.head a.nodes c.enter.new.nodes c.in-Ok-enter.member-1-given.0.0.0 c.in-Ok-enter.member-1-given.0.0.1 c.in-Ok-enter.member-1-given.0.0.2 c.args.v c.self.invariant c.in-Ok-enter.ensures.ok c.insert_before.ensures.tags c.insert_before.ensures.apart c.args.at.serial c.in-Ok.node.now c.in-Ok.ensures.0 c.insert_before.ensures.rings).1)
-
-pub returns-in-Err-enter-clause-err : goal.returns-in-Err-enter-clause-err
-returns-in-Err-enter-clause-err g c =
-    let a = c.self.inside in
+    let why = c.in_err-_ring.field-0.0 in
+    let l = items_of c.enter.new.rings c.enter.new.head c.enter.new.nodes in
     let has : HasItem (items_of a.rings a.head a.nodes) c.args.at.serial = (c.in-Ok.node.now.value, holds a.rings a.head a.nodes c.self.invariant c.args.at.serial c.in-Ok.node.now c.in-Ok.ensures.0) in
-    let back = beside_returns (items_of a.rings a.head a.nodes) c.args.at.serial c.args.v c.in-Err-enter.why has c.in-Err-enter.ensures.err.returns in (
-      subst (λ (l : Items g.row.E.Denot). ReturnsBeside l c.args.at.serial c.args.v c.beside.result) c.self.view_is
-          (subst (ReturnsBeside (items_of a.rings a.head a.nodes) c.args.at.serial c.args.v) (sym c.beside.ensures) back),
-      items_out a.rings c.enter.new.rings a.head c.enter.new.head a.nodes c.enter.new.nodes c.args.v c.in-Err-enter.why c.self.invariant c.in-Err-enter.ensures.err ∙ c.self.view_is,
+    err_out c.from_residual.result (λ _. Unit {0}) (λ e. ReturnsBeside c.args.self.now c.args.at.serial c.args.v e × (l ≡ c.args.self.now)) (beside_of why) c.from_residual.ensures.1 (
+      subst (λ (o : Items g.row.E.Denot). ReturnsBeside o c.args.at.serial c.args.v (beside_of why)) c.self.view_is
+          (beside_returns (items_of a.rings a.head a.nodes) c.args.at.serial c.args.v why has c.in_err-_ring.ensures.err.returns),
+      items_out a.rings c.enter.new.rings a.head c.enter.new.head a.nodes c.enter.new.nodes c.args.v why c.self.invariant c.in_err-_ring.ensures.err ∙ c.self.view_is,
     )

@@ -8,16 +8,17 @@ use Rattle.item_list.proofs.list.List.last.Goals as goal
 pub item_at-requires : goal.item_at-requires
 item_at-requires g c =
     let a = c.self.inside in
-    last_named a.rings a.head a.nodes c.self.invariant c.in-Some.ring c.in-Some-last.member c.in-Some.is c.in-Some-last.ensures.last
+    last_named a.rings a.head a.nodes c.self.invariant c.in_ok-ring.ring c.in_ok-member.member c.in_ok-ring.was c.in_ok-member.ensures.last
 
-pub returns-in-Some-last : goal.returns-in-Some-last
-returns-in-Some-last g c =
+pub returns : goal.returns
+returns g c =
     let a = c.self.inside in
     subst (λ (l : Items g.row.E.Denot). Some c.item_at.result.serial ≡ back (serials l.pairs)) c.self.view_is
-    (last_is a.rings a.head a.nodes c.self.invariant c.in-Some.ring c.in-Some-last.member c.item_at.result.serial c.in-Some.is c.in-Some-last.ensures.last c.item_at.ensures)
+    (last_is a.rings a.head a.nodes c.self.invariant c.in_ok-ring.ring c.in_ok-member.member c.item_at.result.serial c.in_ok-ring.was c.in_ok-member.ensures.last c.item_at.ensures)
 
-pub returns-in-None-last : goal.returns-in-None-last
-returns-in-None-last g c =
+pub returns-in_err-member : goal.returns-in_err-member
+returns-in_err-member g c =
     let a = c.self.inside in
-    subst (λ (l : Items g.row.E.Denot). None ≡ back (serials l.pairs)) c.self.view_is
-    (last_none a.rings a.head a.nodes c.self.invariant c.in-Some.ring c.in-Some.is c.in-None-last.ensures.last)
+    rw c.from_residual-in_err-member.ensures
+    (subst (λ (l : Items g.row.E.Denot). None ≡ back (serials l.pairs)) c.self.view_is
+    (last_none a.rings a.head a.nodes c.self.invariant c.in_ok-ring.ring c.in_ok-ring.was c.in_err-member.ensures.last))
