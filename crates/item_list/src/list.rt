@@ -322,10 +322,10 @@ impl<E: Drop> List<E> {
         ensures { MatchResult result (λ _. MovesToFront self.old self.new it.serial) (λ why. Lacks self.old it.serial why × (self.new ≡ self.old)) }
     {
         let node = self.nodes.get(it)?;
-        let member = node.member;
-        let ring = self.rings.head_of(member);
-        self.rings.unlink(member);
-        self.rings.push_front(ring, member);
+        let moved = node.member;
+        let ring = self.rings.head_of(moved);
+        self.rings.unlink(moved);
+        self.rings.push_front(ring, moved);
         Ok(())
     }
 
@@ -338,10 +338,10 @@ impl<E: Drop> List<E> {
         ensures { MatchResult result (λ _. MovesToRear self.old self.new it.serial) (λ why. Lacks self.old it.serial why × (self.new ≡ self.old)) }
     {
         let node = self.nodes.get(it)?;
-        let member = node.member;
-        let ring = self.rings.head_of(member);
-        self.rings.unlink(member);
-        self.rings.push_back(ring, member);
+        let moved = node.member;
+        let ring = self.rings.head_of(moved);
+        self.rings.unlink(moved);
+        self.rings.push_back(ring, moved);
         Ok(())
     }
 

@@ -146,50 +146,54 @@ fn tells_dead_from_unknown(rt: HostRuntime) {
     assert!(rt; is_as(&list, &[]));
 }
 
-/// Makes one call on both, and says whether they answered alike.
-fn step(list: &mut List<i64>, pairs: &mut Vec<(u32, i64)>, seed: u32) -> Result<bool, AllocError> {
-    let value = seed as i64;
-    if pairs.is_empty() {
-        let new = made(list.push(value));
-        pairs.push((new, value))?;
-        return Ok(new != 0);
+/// Puts a value in on both, at one of four places, and says whether there was memory.
+fn add(
+    list: &mut List<i64>,
+    pairs: &mut Vec<(u32, i64)>,
+    place: usize,
+    value: i64,
+    kind: u32,
+) -> Result<bool, AllocError> {
+    if place >= pairs.len() {
+        return Ok(false);
     }
-    let place = seed as usize / 64 % pairs.len();
+    let it = item(pairs[place].0);
+    let (at, new) = match kind {
+        0 => (0, made(list.push(value))),
+        1 => (pairs.len(), made(list.append(value))),
+        2 => (place, made_beside(list.insert_before(it, value))),
+        _ => (place + 1, made_beside(list.insert_behind(it, value))),
+    };
+    pairs.insert(at, (new, value))?;
+    Ok(new != 0)
+}
+
+/// Makes another call on both, and says whether they answered alike.
+fn change(
+    list: &mut List<i64>,
+    pairs: &mut Vec<(u32, i64)>,
+    place: usize,
+    value: i64,
+    kind: u32,
+) -> Result<bool, AllocError> {
+    if place >= pairs.len() {
+        return Ok(false);
+    }
     let (name, old) = pairs[place];
     let it = item(name);
-    match seed / 65_536 % 11 {
-        0 => {
-            let new = made(list.push(value));
-            pairs.insert(0, (new, value))?;
-            Ok(new != 0)
-        }
-        1 => {
-            let new = made(list.append(value));
-            pairs.push((new, value))?;
-            Ok(new != 0)
-        }
-        2 => {
-            let new = made_beside(list.insert_before(it, value));
-            pairs.insert(place, (new, value))?;
-            Ok(new != 0)
-        }
-        3 => {
-            let new = made_beside(list.insert_behind(it, value));
-            pairs.insert(place + 1, (new, value))?;
-            Ok(new != 0)
-        }
+    match kind {
         4 => {
             pairs[place] = (name, value);
             Ok(list.assign(it, value) == Ok(old))
         }
         5 => {
-            let pair = pairs.remove(place);
-            pairs.insert(0, pair)?;
+            pairs.remove(place);
+            pairs.insert(0, (name, old))?;
             Ok(list.move_to_front(it).is_ok())
         }
         6 => {
-            let pair = pairs.remove(place);
-            pairs.push(pair)?;
+            pairs.remove(place);
+            pairs.push((name, old))?;
             Ok(list.move_to_rear(it).is_ok())
         }
         7 => {
@@ -201,6 +205,21 @@ fn step(list: &mut List<i64>, pairs: &mut Vec<(u32, i64)>, seed: u32) -> Result<
             pairs.remove(place);
             Ok(list.del_item(it) == Ok(old))
         }
+    }
+}
+
+/// Makes a call at random on both, and says whether they answered alike.
+fn step(list: &mut List<i64>, pairs: &mut Vec<(u32, i64)>, seed: u32) -> Result<bool, AllocError> {
+    let value = seed as i64;
+    if pairs.is_empty() {
+        let new = made(list.push(value));
+        pairs.push((new, value))?;
+        return Ok(new != 0);
+    }
+    let place = seed as usize / 64 % pairs.len();
+    match seed / 65_536 % 11 {
+        kind @ 0..=3 => add(list, pairs, place, value, kind),
+        kind => change(list, pairs, place, value, kind),
     }
 }
 
