@@ -1,0 +1,12 @@
+pub mod Changes
+pub mod Items
+pub mod Informations
+pub mod Listings
+pub mod Lookups
+pub mod Orders
+pub mod Queues
+pub mod Sifts
+pub mod Sorting
+pub mod Ties
+pub mod Written
+pub mod Takes
