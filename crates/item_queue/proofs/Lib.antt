@@ -1,5 +1,6 @@
 pub mod Changes
 pub mod Items
+pub mod Holes
 pub mod Informations
 pub mod Listings
 pub mod Lookups
