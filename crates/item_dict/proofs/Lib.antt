@@ -1,3 +1,6 @@
-pub mod Agreement
+pub mod Indexed
+pub mod Maps
+pub mod Ordered
 pub mod Steps
 pub mod Trees
+pub mod Triples

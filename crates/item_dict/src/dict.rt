@@ -1,8 +1,9 @@
 //! The dictionary: a pool of entries, and a tree from keys to serials.
-ghost use Rattle.std.specs.Prelude.{◌≡◌, ℕ, ℤ, Some, None, IfSome, MatchOption, MatchResult};
-ghost use Rattle.std.specs.Option.{option_map};
+ghost use Rattle.std.specs.Prelude.{◌≡◌, ℕ, ℤ, Some, MatchOption, MatchResult};
 ghost use Rattle.std.specs.FinMap as map;
-ghost use Rattle.item_dict.specs.Contents.{contents, pair, HasKey, HasInf, Lacks, Agrees, IsWithin, Changes, Adds, Inserts, Refuses, Removes, IsLeast, IsGreatest, IsNextAfter, IsNextBefore, IsLastUpTo, IsFirstFrom, serials_of};
+ghost use Rattle.item_dict.specs.Contents.{contents, HasKey, HasInf, IsAbsent, Lacks, AreApart, IsWithin, Changes, Adds, Inserts, Refuses, Removes};
+ghost use Rattle.item_dict.specs.Order.{IsLeast, IsGreatest, IsNextAfter, IsNextBefore, IsLastUpTo, IsFirstFrom};
+ghost use Rattle.item_dict.specs.Index.{pair, IsNamed};
 
 use item_pool::{Gone, InsertRefusal, Item, MOST_SERIALS, Pool};
 use std::alloc::Global;
@@ -55,7 +56,7 @@ fn live_item<I>(pool: &Pool<Entry<I>>, serial: u32) -> Item
 
 /// The serial of the least key above `k`.
 fn next_above(tree: &BTreeMap<i64, u32>, k: i64) -> Option<u32>
-    ensures { MatchOption result (IsLastUpTo (serials_of tree.now) k) (λ s. (j : ℤ) × IsNextAfter (serials_of tree.now) k s j) }
+    ensures { MatchOption result (IsLastUpTo (IsNamed tree.now) k) (λ s. (j : ℤ) × IsNextAfter (IsNamed tree.now) k s j) }
 {
     match tree.range((Bound::Excluded(k), Bound::Unbounded)).next() {
         Some((_, serial)) => Some(*serial),
@@ -65,7 +66,7 @@ fn next_above(tree: &BTreeMap<i64, u32>, k: i64) -> Option<u32>
 
 /// The serial of the greatest key below `k`.
 fn next_below(tree: &BTreeMap<i64, u32>, k: i64) -> Option<u32>
-    ensures { MatchOption result (IsFirstFrom (serials_of tree.now) k) (λ s. (j : ℤ) × IsNextBefore (serials_of tree.now) k s j) }
+    ensures { MatchOption result (IsFirstFrom (IsNamed tree.now) k) (λ s. (j : ℤ) × IsNextBefore (IsNamed tree.now) k s j) }
 {
     match tree
         .range((Bound::Unbounded, Bound::Excluded(k)))
@@ -79,7 +80,7 @@ fn next_below(tree: &BTreeMap<i64, u32>, k: i64) -> Option<u32>
 impl<I: Drop> Dict<I> {
     /// A dictionary of no entries, which takes no memory.
     pub fn new(alloc: Global) -> Dict<I>
-        ensures { result ≡ contents map.empty map.empty 0 }
+        ensures { result ≡ contents map.empty 0 }
     {
         Dict {
             pool: Pool::new(alloc),
@@ -89,8 +90,8 @@ impl<I: Drop> Dict<I> {
 
     /// How many entries there are.
     pub fn len(&self) -> u32
-        ensures len { result ≡ map.len self.now.entries }
-        ensures agrees { Agrees self.now }
+        ensures len { result ≡ map.len self.now.triples }
+        ensures apart { AreApart self.now }
         ensures within { IsWithin self.now }
     {
         let _made = self.pool.made();
@@ -99,8 +100,7 @@ impl<I: Drop> Dict<I> {
 
     /// The item of a key, and none exactly where the key is absent.
     pub fn lookup(&self, k: i64) -> Option<Item>
-        ensures serial { option_map (λ it. it.serial) result ≡ map.get self.now.serials k }
-        ensures found { IfSome result (λ it. HasKey self.now it.serial k) }
+        ensures { MatchOption result (IsAbsent self.now k) (λ it. HasKey self.now it.serial k) }
     {
         match self.tree.get(&k) {
             Some(serial) => Some(live_item(&self.pool, *serial)),
@@ -138,7 +138,7 @@ impl<I: Drop> Dict<I> {
 
     /// The item of the least key, and none exactly where there are no entries.
     pub fn min(&self) -> Option<Item>
-        ensures { MatchOption result (self.now.serials ≡ map.empty) (λ it. (k : ℤ) × IsLeast self.now.serials it.serial k) }
+        ensures { MatchOption result (self.now.triples ≡ map.empty) (λ it. (k : ℤ) × IsLeast (HasKey self.now) it.serial k) }
     {
         match self.tree.first_key_value() {
             Some((_, serial)) => Some(live_item(&self.pool, *serial)),
@@ -148,7 +148,7 @@ impl<I: Drop> Dict<I> {
 
     /// The item of the greatest key, and none exactly where there are no entries.
     pub fn max(&self) -> Option<Item>
-        ensures { MatchOption result (self.now.serials ≡ map.empty) (λ it. (k : ℤ) × IsGreatest self.now.serials it.serial k) }
+        ensures { MatchOption result (self.now.triples ≡ map.empty) (λ it. (k : ℤ) × IsGreatest (HasKey self.now) it.serial k) }
     {
         match self.tree.last_key_value() {
             Some((_, serial)) => Some(live_item(&self.pool, *serial)),
@@ -162,7 +162,7 @@ impl<I: Drop> Dict<I> {
     ///
     /// As those of `key`. All is then as it was.
     pub fn change_inf(&mut self, it: Item, i: I) -> Result<I, Gone>
-        ensures { MatchResult result (λ old. Changes self.old self.new it.serial i old) (λ why. Lacks self.old it.serial why × (self.new ≡ self.old)) }
+        ensures { MatchResult result (λ old. (k : ℤ) × Changes self.old self.new it.serial k i old) (λ why. Lacks self.old it.serial why × (self.new ≡ self.old)) }
     {
         let entry = self.pool.get_mut(it)?;
         Ok(mem::replace(&mut entry.inf, i))
@@ -170,7 +170,7 @@ impl<I: Drop> Dict<I> {
 
     /// Takes in an entry of an absent key, under the next serial.
     fn add(&mut self, k: i64, i: I) -> Result<Item, InsertRefusal<I>>
-        requires { map.get self.old.serials k ≡ None }
+        requires { IsAbsent self.old k }
         ensures { MatchResult result (λ it. Adds self.old self.new k i it.serial) (λ why. Refuses self.old self.new k i why) }
     {
         let made = self.pool.made();
@@ -208,7 +208,7 @@ impl<I: Drop> Dict<I> {
     /// Removes the entry of a key, and answers its information, and none exactly where the key is absent. It takes no
     /// memory.
     pub fn del(&mut self, k: i64) -> Option<I>
-        ensures { MatchOption result ((map.get self.old.serials k ≡ None) × (self.new ≡ self.old)) (λ x. (s : ℕ) × Removes self.old self.new s k x) }
+        ensures { MatchOption result (IsAbsent self.old k × (self.new ≡ self.old)) (λ x. (s : ℕ) × Removes self.old self.new s k x) }
     {
         match self.tree.remove(&k) {
             Some(serial) => match self.pool.remove(Item { slot: 0, serial }) {
@@ -242,7 +242,7 @@ impl<I: Drop> Dict<I> {
     ///
     /// As those of `key`.
     pub fn succ(&self, it: Item) -> Result<Option<Item>, Gone>
-        ensures { MatchResult result (λ next. (k : ℤ) × HasKey self.now it.serial k × MatchOption next (IsLastUpTo self.now.serials k) (λ n. (j : ℤ) × IsNextAfter self.now.serials k n.serial j)) (λ why. Lacks self.now it.serial why) }
+        ensures { MatchResult result (λ next. (k : ℤ) × HasKey self.now it.serial k × MatchOption next (IsLastUpTo (HasKey self.now) k) (λ n. (j : ℤ) × IsNextAfter (HasKey self.now) k n.serial j)) (λ why. Lacks self.now it.serial why) }
     {
         match self.pool.get(it) {
             Ok(entry) => match next_above(&self.tree, entry.key) {
@@ -259,7 +259,7 @@ impl<I: Drop> Dict<I> {
     ///
     /// As those of `key`.
     pub fn pred(&self, it: Item) -> Result<Option<Item>, Gone>
-        ensures { MatchResult result (λ next. (k : ℤ) × HasKey self.now it.serial k × MatchOption next (IsFirstFrom self.now.serials k) (λ n. (j : ℤ) × IsNextBefore self.now.serials k n.serial j)) (λ why. Lacks self.now it.serial why) }
+        ensures { MatchResult result (λ next. (k : ℤ) × HasKey self.now it.serial k × MatchOption next (IsFirstFrom (HasKey self.now) k) (λ n. (j : ℤ) × IsNextBefore (HasKey self.now) k n.serial j)) (λ why. Lacks self.now it.serial why) }
     {
         match self.pool.get(it) {
             Ok(entry) => match next_below(&self.tree, entry.key) {

@@ -6,10 +6,8 @@
 //! The entries lie in a `Pool`, and a `BTreeMap` has the serial of each key. Every call is logarithmic in the number
 //! of entries. (The pool's table answers in constant expected time.)
 //!
-//! Contracts see a dictionary as two finite maps, from serials to entries and from keys to serials, with the number of
-//! serials made. The two maps agree, and `len` says so. (A list in the order of the keys would say the same. Two maps
-//! make each call one insertion or removal in each, with no place in a list to be found or shifted; only the least, the
-//! greatest and the next key have anything to do with the order.)
+//! Contracts see a dictionary as the list of its triples of key, item and information in the order of the keys, that is
+//! as a finite map from keys, with the number of serials made. `len` says that no two keys have one item.
 #![tactic(auto)]
 
 mod dict;

@@ -4,9 +4,10 @@ use Rattle.std.specs.Ordering.{int_cmp}
 use Rattle.std.specs.BTreeMap as tree
 use Rattle.std.specs.FinMap as map
 use Rattle.item_dict.specs.declared.dict.Dict.TheInside.{Inside}
-use Rattle.item_dict.specs.Contents.{Contents, Removes}
-use Rattle.item_dict.specs.Index.{seen}
+use Rattle.item_dict.specs.Contents.{Contents, contents, Removes}
+use Rattle.item_dict.specs.Index.{seen, serials_of, triples_of}
 use Rattle.item_dict.proofs.Trees.{get_serials}
+use Rattle.item_dict.proofs.Triples.{absent}
 use Rattle.item_dict.proofs.Steps.{removes_key}
 use Rattle.item_dict.proofs.dict.Dict.del.Goals as goal
 
@@ -36,5 +37,6 @@ returns-in-Ok g c =
 pub returns-in-None : goal.returns-in-None
 returns-in-None g c =
     let X = g.row.I.Denot in let m = c.self.inside.tree in let k = c.args.k in let p = c.self.inside.pool in
-    let absent = ap (λ (o : Contents X). map.get o.serials k) (sym c.self.view_is) ∙ get_serials m k ∙ ap (λ z. tree.get int_cmp m z) (sym (to_z-of_z w64 k c.ranges.k)) ∙ sym c.in-None.ensures.value in
-    (absent, (λ i. record { entries = p.live; serials = map.from_entries (c.in-None.ensures.unchanged i); made = p.made }) ∙ c.self.view_is)
+    let unnamed = get_serials m k ∙ ap (λ z. tree.get int_cmp m z) (sym (to_z-of_z w64 k c.ranges.k)) ∙ sym c.in-None.ensures.value in
+    let none = ap (λ (o : Contents X). map.get o.triples k) (sym c.self.view_is) ∙ absent p.live (serials_of m) c.self.invariant k unnamed in
+    (none, (λ i. contents (triples_of p.live (map.from_entries (c.in-None.ensures.unchanged i))) p.made) ∙ c.self.view_is)

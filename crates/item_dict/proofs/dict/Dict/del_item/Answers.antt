@@ -1,12 +1,12 @@
-use Rattle.std.proofs.Common.{rules, None, subst, w64}
+use Rattle.std.proofs.Common.{rules, None, ◌∙◌, subst, w64}
 use Rattle.std.proofs.lemmas.Int.{to_z-of_z}
 use Rattle.std.specs.Prelude.{FitsSigned}
 use Rattle.std.specs.Ordering.{int_cmp}
 use Rattle.std.specs.BTreeMap as tree
 use Rattle.item_dict.specs.declared.dict.Dict.TheInside.{Inside}
-use Rattle.item_dict.specs.Contents.{Contents, Removes}
-use Rattle.item_dict.specs.Index.{seen}
-use Rattle.item_dict.proofs.Steps.{removes_at}
+use Rattle.item_dict.specs.Contents.{Contents, contents, Lacks, Removes}
+use Rattle.item_dict.specs.Index.{seen, serials_of, triples_of}
+use Rattle.item_dict.proofs.Steps.{lacks, removes_at}
 use Rattle.item_dict.proofs.dict.Dict.del_item.Goals as goal
 
 pub invariant_of-self : goal.invariant_of-self
@@ -24,3 +24,11 @@ returns-in-Ok g c =
     let q : Inside X = record { pool = c.remove.new.self; tree = c.remove-serial.new.self } in
     let done = (removes_at c.self.inside c.self.invariant q s e c.in-Ok.ensures updates).0 in
     (e.key, subst (λ (o : Contents X). Removes o (seen q) s e.key e.inf) c.self.view_is done)
+
+pub returns-in-Err : goal.returns-in-Err
+returns-in-Err g c =
+    let p = c.self.inside in let s = c.args.it.serial in
+    let kept = c.in-Err.ensures.1 in (
+      subst (λ (o : Contents g.row.I.Denot). Lacks o s c.in-Err.why) c.self.view_is (lacks p c.self.invariant s c.in-Err.why c.in-Err.ensures.0),
+      (λ i. contents (triples_of (kept i).live (serials_of p.tree)) (kept i).made) ∙ c.self.view_is,
+    )
