@@ -12,6 +12,8 @@
 
 mod dict;
 #[cfg(test)]
+mod runs;
+#[cfg(test)]
 mod tests;
 
 pub use dict::{Dict, Entry};
