@@ -1,13 +1,13 @@
 pub mod Changes
-pub mod Items
 pub mod Holes
-pub mod Informations
+pub mod Informed
+pub mod Items
 pub mod Listings
 pub mod Lookups
 pub mod Orders
 pub mod Queues
 pub mod Sifts
 pub mod Sorting
+pub mod Takes
 pub mod Ties
 pub mod Written
-pub mod Takes

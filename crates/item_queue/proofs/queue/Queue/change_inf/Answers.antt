@@ -3,7 +3,7 @@ use Rattle.std.proofs.lemmas.Result.{err_from_is_err_and}
 use Rattle.item_queue.specs.Contents.{Queued, Lacks, ChangesInformation}
 use Rattle.item_queue.specs.Heap.{priced_of}
 use Rattle.item_queue.specs.IsQueue.{seen}
-use Rattle.item_queue.proofs.Informations.{informed, informed_queue, informed_seen}
+use Rattle.item_queue.proofs.Informed.{informed, informed_queue, informed_seen}
 use Rattle.item_queue.proofs.Items.{get_items}
 use Rattle.item_queue.proofs.queue.Queue.change_inf.Goals as goal
 
