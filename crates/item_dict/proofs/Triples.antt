@@ -38,15 +38,15 @@ module _ {X : Type 0} where
 
   -- a key's triple is that of its serial's entry
   module _ (live : map.FinMap nat_cmp (Entry X)) (serials : map.FinMap int_cmp ℕ) where
-    among : (q : ℤ) (r : Option ℕ) → map.get serials q ≡ r → cond (is_some r) (found_in live r) None ≡ found_in live r
-    among q None e = refl
-    among q (Some s) e = refl
+    among : (r : Option ℕ) → cond (is_some r) (found_in live r) None ≡ found_in live r
+    among None = refl
+    among (Some s) = refl
 
     pub get_triples : (q : ℤ) → map.get (triples_of live serials) q ≡ found_in live (map.get serials q)
     unfolding triples_of
     get_triples q = get_by (λ k. found_in live (map.get serials k)) (map.keys serials) q
         ∙ ap (λ b. cond b (found_in live (map.get serials q)) None) (sym (map.contains_key-keys serials q))
-        ∙ among q (map.get serials q) refl
+        ∙ among (map.get serials q)
 
   pub triples_empty : (live : map.FinMap nat_cmp (Entry X)) (serials : map.FinMap int_cmp ℕ) → serials ≡ map.empty → triples_of live serials ≡ map.empty
   triples_empty live serials blank = map.same_map int_cmp_total map.int_cmp-IsAntisymmetric (triples_of live serials) map.empty (λ q.

@@ -28,19 +28,22 @@ module _ {X : Type 0} where
   found_in live None = None
   found_in live (Some s) = with_inf s (map.get live s)
 
-  -- the triples of some keys, where f finds the item and the information of a key
+  -- m with the triple of the key k, where there is one
   abbrev pub with_triple : map.FinMap int_cmp (ℕ × X) → ℤ → Option (ℕ × X) → map.FinMap int_cmp (ℕ × X)
   with_triple m k None = m
   with_triple m k (Some t) = map.insert m k t
 
+  -- the triples of the keys, where f finds the item and the information of a key
   abbrev pub triples_by : (ℤ → Option (ℕ × X)) → List ℤ → map.FinMap int_cmp (ℕ × X)
   triples_by f [] = map.empty
   triples_by f (k ∷ ks) = with_triple (triples_by f ks) k (f k)
 
+  -- the triples of the keys of the tree
   unfoldable pub triples_of : map.FinMap nat_cmp (Entry X) → map.FinMap int_cmp ℕ → map.FinMap int_cmp (ℕ × X)
   triples_of live serials = triples_by (λ k. found_in live (map.get serials k)) (map.keys serials)
 
-  -- an entry with the key k lies under a serial exactly where k has that serial, so that no two entries have one key
+  -- an entry with the key k lies under a serial exactly where k has that serial, so that no two entries have one key, and
+  -- there are as many triples as entries
   pub record IsIndexed (live : map.FinMap nat_cmp (Entry X)) (serials : map.FinMap int_cmp ℕ) : Type 0 where
     pub listed : (s : ℕ) (k : ℤ) (x : X) → map.get live s ≡ Some (pair k x) → map.get serials k ≡ Some s
     pub found : (k : ℤ) (s : ℕ) → map.get serials k ≡ Some s → (x : X) × (map.get live s ≡ Some (pair k x))

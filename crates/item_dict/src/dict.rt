@@ -88,7 +88,7 @@ impl<I: Drop> Dict<I> {
         }
     }
 
-    /// How many entries there are.
+    /// How many entries there are. No two keys have one item, and each item was made.
     pub fn len(&self) -> u32
         ensures len { result ≡ map.len self.now.triples }
         ensures apart { AreApart self.now }
