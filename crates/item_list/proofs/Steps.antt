@@ -1,50 +1,21 @@
 -- What each step leaves of a list.
-use Rattle.std.proofs.Common.{◌≡◌, ℕ, ◌+◌, ◌-◌, ◌<◌, ◌≤◌, Bool, true, false, cond, List, [], ◌∷◌, ◌++◌, length, suc, Option, Some, None, is_some, refl, sym, ap, subst, ◌∙◌, ◌⊎◌, inl, inr, arith}
+use Rattle.std.proofs.Common.{◌≡◌, ℕ, ◌-◌, ◌<◌, ◌≤◌, Bool, true, false, cond, List, [], ◌∷◌, ◌++◌, length, suc, Option, Some, None, is_some, refl, sym, ap, subst, ◌∙◌, ◌⊎◌, inl, inr, arith}
 use Rattle.std.proofs.lemmas.Bool.Decides.{eqb_tells}
 use Rattle.std.specs.Ordering.{nat_cmp}
 use Rattle.std.specs.Cmp.{nat_cmp_total}
 use Rattle.std.specs.FinMap as map
-use Rattle.std.specs.FinMap.{FinMap, get-empty, len-empty, len-insert, len-remove}
+use Rattle.std.specs.FinMap.{FinMap, get-empty, len-empty, len-remove}
 use Rattle.item_pool.specs.Contents.{Contents, contents, IsWithin}
 use Rattle.item_pool.specs.Contents as pool
 use Rattle.item_pool.specs.declared.pool.Gone.{Gone}
-use Rattle.item_pool.specs.declared.pool.Item.{Item}
-use Rattle.item_pool.specs.declared.pool.InsertRefusal.{InsertRefusal}
-use Rattle.item_pool.specs.declared.pool.InsertRefusal.TheVariants.{NoMemory, Spent}
-use Rattle.item_ring.proofs.Callers.{in_with_after, in_with_before, new_with_before}
-use Rattle.item_ring.specs.RingLists.{RingLists, IsIn, IsDistinct, IsHead, IsLinked, IsLinkedIn, AreApart, ring, list_in, without, with_after, with_before, front, back, StandsBetween}
+use Rattle.item_ring.specs.RingLists.{RingLists, IsIn, IsDistinct, IsHead, IsLinked, IsLinkedIn, AreApart, ring, list_in, without}
 use Rattle.item_ring.proofs.Maps.{get_new, get_else, get_gone, get_left}
 use Rattle.item_ring.proofs.Apart.{list_new}
-use Rattle.item_ring.proofs.Lists.{still_in, in_left, in_right, in_either, cut_at}
+use Rattle.item_ring.proofs.Lists.{still_in, in_left, in_right}
 use Rattle.item_list.specs.declared.node.Node.{Node}
-use Rattle.item_list.specs.Items.{Items, items, serials, pairs_without, pairs_behind, pairs_before, Holds, Lacks, pairs_with, Enters, HasItem, HasBetween, Returns, ReturnsBeside, beside_of, AreItems}
-use Rattle.item_list.specs.Kept.{members, IsHeaded, Opens, node, IsListed, items_of, IsKept, IsNamed, Makes, Comes, Declined}
-use Rattle.item_list.proofs.Pairs.{some_same, some_none, pairs_are, listed_same, IsPair, listed_without, listed_end, listed_behind, listed_before, listed_with, value_there, value_gone, Tagged, tags_listed, named_listed, Cut, cut, front_tag, front_none, back_tag, back_none, front_in, back_in, tagged_join}
-
-new_with_after : (at m : ℕ) (xs : List ℕ) → IsIn at xs → IsIn m (with_after at m xs)
-new_with_after at m [] i = absurd i
-new_with_after at m (x ∷ xs) i = elim (eqb_tells x at) [
-  | inl t ↦ subst (λ b. IsIn m (cond b (x ∷ m ∷ xs) (x ∷ with_after at m xs))) (sym t.0) (inr (inl refl))
-  | inr f ↦ subst (λ b. IsIn m (cond b (x ∷ m ∷ xs) (x ∷ with_after at m xs))) (sym f.0) (elim i [ inl e ↦ absurd (f.1 (sym e)) | inr j ↦ inr (new_with_after at m xs j) ])
-]
-
-one_of : (r m : ℕ) (cs : List ℕ) → IsIn r (m ∷ []) → IsIn r (m ∷ cs)
-one_of r m cs (inl e) = inl e
-one_of r m cs (inr f) = absurd f
-
-round_behind : (r m : ℕ) (bs cs : List ℕ) → IsIn r (cs ++ bs ++ m ∷ []) → IsIn r (bs ++ m ∷ cs)
-round_behind r m bs cs i = elim (in_either r (cs ++ bs) (m ∷ []) i) [
-  | inl a ↦ elim (in_either r cs bs a) [ inl b ↦ in_right r bs (m ∷ cs) (inr b) | inr d ↦ in_left r bs (m ∷ cs) d ]
-  | inr b ↦ in_right r bs (m ∷ cs) (one_of r m cs b)
-]
-
-round_before : (r m : ℕ) (bs cs : List ℕ) → IsIn r (m ∷ cs ++ bs) → IsIn r (bs ++ m ∷ cs)
-round_before r m bs cs (inl e) = in_right r bs (m ∷ cs) (inl e)
-round_before r m bs cs (inr i) = elim (in_either r cs bs i) [ inl a ↦ in_right r bs (m ∷ cs) (inr a) | inr b ↦ in_left r bs (m ∷ cs) b ]
-
-missing : {Y : Type 0} (o : Option Y) → is_some o ≡ false → o ≡ None
-missing None e = refl
-missing (Some y) e = cc
+use Rattle.item_list.specs.Items.{Items, items, serials, pairs_without, Holds, Lacks, pairs_with, AreItems}
+use Rattle.item_list.specs.Kept.{members, IsHeaded, Opens, node, IsListed, items_of, IsKept, IsNamed}
+use Rattle.item_list.proofs.Pairs.{some_same, some_none, pairs_are, IsPair, listed_without, listed_end, listed_with, value_there, value_gone, Tagged, tags_listed, named_listed}
 
 -- the member of a live serial is linked into the ring of the head
 linked_in : (s : RingLists) (head : Option ℕ) (m : ℕ) → IsHeaded s head → IsIn m (members s head) → (h : ℕ) × ((head ≡ Some h) × IsLinkedIn s h m)
@@ -52,10 +23,10 @@ linked_in s None m e i = absurd i
 linked_in s (Some h) m e i = (h, (refl, record { head = e; member = i }))
 
 -- the ring of the head is now the list ys
-members_new : (t : RingLists) (rings : FinMap nat_cmp (List ℕ)) (h : ℕ) (ys : List ℕ) → t.rings ≡ map.insert rings h ys → members t (Some h) ≡ ys
+pub members_new : (t : RingLists) (rings : FinMap nat_cmp (List ℕ)) (h : ℕ) (ys : List ℕ) → t.rings ≡ map.insert rings h ys → members t (Some h) ≡ ys
 members_new t rings h ys e = ap (λ r. list_in r h) e ∙ list_new rings h ys
 
-headed_new : (t : RingLists) (rings : FinMap nat_cmp (List ℕ)) (h : ℕ) (ys : List ℕ) → t.rings ≡ map.insert rings h ys → IsHeaded t (Some h)
+pub headed_new : (t : RingLists) (rings : FinMap nat_cmp (List ℕ)) (h : ℕ) (ys : List ℕ) → t.rings ≡ map.insert rings h ys → IsHeaded t (Some h)
 headed_new t rings h ys e = ap (λ r. is_some (map.get r h)) e ∙ ap is_some (get_new rings h ys)
 
 is_none : (head : Option ℕ) → ((h : ℕ) → head ≡ Some h → ⊥) → head ≡ None
@@ -106,119 +77,6 @@ module _ {X : Type 0} where
 
   pub is_linked : (s : RingLists) (head : Option ℕ) (p : Contents (Node X)) → IsKept s head p → (k : ℕ) (n : Node X) → map.get p.live k ≡ Some n → IsLinked s n.member
   is_linked s head p kept k n e = let l = linked s head p kept k n e in (l.0, l.1.1)
-
-  -- there was a value that came in, and its member is linked
-  module _ (s a b t : RingLists) (before after : Option ℕ) (p q : Contents (Node X)) (h m : ℕ) (it : Item) (x : X)
-      (kept : IsKept s before p) (opens : Opens s a before after h) (makes : Makes a b p q m it x) (ys : List ℕ) (zs : List (ℕ × X)) where
-    pub old_tags : (j k : ℕ) → map.get s.tags j ≡ Some k → map.get b.tags j ≡ Some k
-    old_tags j k e =
-        let f : map.get a.tags m ≡ None = missing (map.get a.tags m) makes.fresh in
-        let ea : map.get a.tags j ≡ Some k = ap (λ (r : FinMap nat_cmp ℕ). map.get r j) opens.tags ∙ e in
-        ap (λ (r : FinMap nat_cmp ℕ). map.get r j) makes.tags
-        ∙ get_else a.tags m (p.made + 1) j (λ w. some_none k (sym ea ∙ ap (map.get a.tags) w ∙ f)) ∙ ea
-
-    pub old_live : (j : ℕ) (n : Node X) → map.get p.live j ≡ Some n → map.get q.live j ≡ Some n
-    old_live j n e =
-        let w = kept.within.0 j n e in
-        ap (λ (r : FinMap nat_cmp (Node X)). map.get r j) makes.live
-        ∙ get_else p.live (p.made + 1) (node x m) j (λ f. let clash : ⊥ = omega (arith, w.1, f) in clash) ∙ e
-
-    pub old_listed : IsListed b.tags q.live (members s before) kept.pairs
-    old_listed = listed_same s.tags b.tags p.live q.live old_tags old_live (members s before) kept.pairs kept.listed
-
-    pub new_pair : IsPair b.tags q.live m (p.made + 1) x
-    new_pair = record {
-      tag = ap (λ (r : FinMap nat_cmp ℕ). map.get r m) makes.tags ∙ get_new a.tags m (p.made + 1);
-      node = ap (λ (r : FinMap nat_cmp (Node X)). map.get r (p.made + 1)) makes.live ∙ get_new p.live (p.made + 1) (node x m);
-    }
-
-    at_most : (v : Bool) (n k : ℕ) → k ≡ cond v n (n + 1) → k ≤ n + 1
-    at_most true n k e = omega (arith, e)
-    at_most false n k e = omega (arith, e)
-
-    few_tags : map.len b.tags ≤ q.made
-    few_tags =
-        let e : map.len b.tags ≡ cond (map.contains_key a.tags m) (map.len a.tags) (map.len a.tags + 1) = ap map.len makes.tags ∙ len-insert nat_cmp_total a.tags m (p.made + 1) in
-        let f = at_most (map.contains_key a.tags m) (map.len a.tags) (map.len b.tags) e in
-        let g : map.len a.tags ≡ map.len s.tags = ap map.len opens.tags in
-        omega (arith, f, g, kept.few, makes.made)
-
-    given : (j : ℕ) (n : Node X) → map.get q.live j ≡ Some n → (0 < j) × (j ≤ q.made)
-    given j n e = elim (eqb_tells j (p.made + 1)) [
-      | inl w ↦ (omega (arith, w.1), omega (arith, w.1, makes.made))
-      | inr w ↦
-          let e0 : map.get p.live j ≡ Some n = sym (get_else p.live (p.made + 1) (node x m) j w.1) ∙ sym (ap (λ (r : FinMap nat_cmp (Node X)). map.get r j) makes.live) ∙ e in
-          let g = kept.within.0 j n e0 in
-          (g.0, omega (arith, g.1, makes.made))
-    ]
-
-    pub kept_in : t.rings ≡ map.insert b.rings h ys → t.tags ≡ b.tags → AreApart t → IsListed b.tags q.live ys zs
-        → (olds : (j : ℕ) → IsIn j (members s before) → IsIn j ys) → IsIn m ys → IsKept t after q
-    kept_in rings tags apart listed olds here = subst (λ o. IsKept t o q) (sym opens.head) (record {
-      pairs = zs;
-      listed = subst (λ (g : FinMap nat_cmp ℕ). IsListed g q.live (members t (Some h)) zs) (sym tags) (subst (λ ms. IsListed b.tags q.live ms zs) (sym (members_new t b.rings h ys rings)) listed);
-      found = λ j n e. elim (eqb_tells j (p.made + 1)) [
-        | inl w ↦
-            let same : n ≡ node x m = some_same n (node x m) (sym e ∙ ap (map.get q.live) w.1 ∙ new_pair.node) in (
-              subst (λ ms. IsIn n.member ms) (sym (members_new t b.rings h ys rings)) (subst (λ (o : Node X). IsIn o.member ys) (sym same) here),
-              ap (λ (r : FinMap nat_cmp ℕ). map.get r n.member) tags ∙ ap (λ (o : Node X). map.get b.tags o.member) same ∙ new_pair.tag ∙ ap Some (sym w.1),
-            )
-        | inr w ↦
-            let e0 : map.get p.live j ≡ Some n = sym (get_else p.live (p.made + 1) (node x m) j w.1) ∙ sym (ap (λ (r : FinMap nat_cmp (Node X)). map.get r j) makes.live) ∙ e in
-            let f = kept.found j n e0 in (
-              subst (λ ms. IsIn n.member ms) (sym (members_new t b.rings h ys rings)) (olds n.member f.0),
-              ap (λ (r : FinMap nat_cmp ℕ). map.get r n.member) tags ∙ old_tags n.member j f.1,
-            )
-      ];
-      headed = headed_new t b.rings h ys rings;
-      apart = apart;
-      within = (given, omega (arith, makes.made, makes.room));
-      few = subst (λ (g : FinMap nat_cmp ℕ). map.len g ≤ q.made) (sym tags) few_tags;
-    })
-
-    pub items_in : t.rings ≡ map.insert b.rings h ys → t.tags ≡ b.tags → IsListed b.tags q.live ys zs → items_of t after q ≡ items zs (p.made + 1)
-    items_in rings tags listed =
-        ap (λ o. items_of t o q) opens.head
-        ∙ items_now t (Some h) q zs (p.made + 1) (subst (λ (g : FinMap nat_cmp ℕ). IsListed g q.live (members t (Some h)) zs) (sym tags) (subst (λ ms. IsListed b.tags q.live ms zs) (sym (members_new t b.rings h ys rings)) listed)) makes.made
-
-  -- a value that didn't come in leaves the list as it was
-  module _ (s t : RingLists) (before after : Option ℕ) (p q : Contents (Node X)) (x : X) (why : InsertRefusal X) (kept : IsKept s before p) (refused : Declined s t before after p q x why) where
-    members_same : (((t ≡ s) × (after ≡ before)) ⊎ ((h : ℕ) × Opens s t before after h)) → (members t after ≡ members s before) × (t.tags ≡ s.tags) × IsHeaded t after × AreApart t
-    members_same (inl e) = (
-      ap (λ (r : RingLists). members r after) e.0 ∙ ap (members s) e.1,
-      ap (λ (r : RingLists). r.tags) e.0,
-      subst (λ (r : RingLists). IsHeaded r after) (sym e.0) (subst (IsHeaded s) (sym e.1) kept.headed),
-      subst AreApart (sym e.0) kept.apart,
-    )
-    members_same (inr e) = (ap (members t) e.1.head ∙ e.1.ring, e.1.tags, subst (IsHeaded t) (sym e.1.head) e.1.headed, e.1.apart)
-
-    same : (members t after ≡ members s before) × (t.tags ≡ s.tags) × IsHeaded t after × AreApart t
-    same = members_same refused.rings
-
-    listed_now : IsListed t.tags q.live (members t after) kept.pairs
-    listed_now =
-        subst (λ ms. IsListed t.tags q.live ms kept.pairs) (sym same.0)
-        (subst (λ (g : FinMap nat_cmp ℕ). IsListed g q.live (members s before) kept.pairs) (sym same.1)
-        (subst (λ (l : FinMap nat_cmp (Node X)). IsListed s.tags l (members s before) kept.pairs) (sym refused.live) kept.listed))
-
-    pub kept_out : IsKept t after q
-    kept_out = record {
-      pairs = kept.pairs;
-      listed = listed_now;
-      found = λ j n e.
-          let f = kept.found j n (ap (λ (l : FinMap nat_cmp (Node X)). map.get l j) (sym refused.live) ∙ e) in
-          (subst (IsIn n.member) (sym same.0) f.0, ap (λ (g : FinMap nat_cmp ℕ). map.get g n.member) same.1 ∙ f.1);
-      headed = same.2;
-      apart = same.3;
-      within = (
-        λ j n e. let w = kept.within.0 j n (ap (λ (l : FinMap nat_cmp (Node X)). map.get l j) (sym refused.live) ∙ e) in (w.0, subst (λ k. j ≤ k) (sym refused.made) w.1),
-        subst (λ k. k ≤ 16777215) (sym refused.made) kept.within.1,
-      );
-      few = subst (λ (g : FinMap nat_cmp ℕ). map.len g ≤ q.made) (sym same.1) (subst (λ k. map.len s.tags ≤ k) (sym refused.made) kept.few);
-    }
-
-    pub items_out : items_of t after q ≡ items_of s before p
-    items_out = items_now t after q kept.pairs p.made listed_now refused.made ∙ sym (items_are s before p kept)
 
   -- the value of a live serial goes out
   module _ (s t : RingLists) (head : Option ℕ) (p q : Contents (Node X)) (kept : IsKept s head p) (k : ℕ) (n : Node X) (e : map.get p.live k ≡ Some n)
@@ -328,73 +186,6 @@ module _ {X : Type 0} where
     few = let z : map.len s.tags ≡ 0 = ap map.len tags ∙ len-empty nat_cmp ℕ in omega (arith, z);
   }
 
-  -- a value that came in stands where its member was linked
-  module _ (s b t : RingLists) (before after : Option ℕ) (p q : Contents (Node X)) (h m : ℕ) (it : Item) (x : X) (kept : IsKept s before p) (come : Comes s b before after p q h m it x)
-      (tags : t.tags ≡ b.tags) (apart : AreApart t) where
-    pub ring_is : ring b h ≡ members s before
-    ring_is = ap (λ r. list_in r h) come.makes.rings ∙ come.opens.ring
-
-    old : (items_of s before p).pairs ≡ kept.pairs
-    old = ap (λ (l : Items X). l.pairs) (items_are s before p kept)
-
-    in_ring : (ys : List ℕ) (zs us : List (ℕ × X)) → t.rings ≡ map.insert b.rings h ys → IsListed b.tags q.live ys zs → ((j : ℕ) → IsIn j (members s before) → IsIn j ys) → IsIn m ys → zs ≡ us
-        → IsKept t after q × Enters (items_of s before p) (items_of t after q) it us
-    in_ring ys zs us rings listed olds here e = (
-      kept_in s come.mid b t before after p q h m it x kept come.opens come.makes ys zs rings tags apart listed olds here,
-      record {
-        serial = come.makes.serial;
-        pairs = ap (λ (l : Items X). l.pairs) (items_in s come.mid b t before after p q h m it x kept come.opens come.makes ys zs rings tags listed) ∙ e;
-        made = come.makes.made;
-        within = come.makes.room;
-      },
-    )
-
-    listed_old : IsListed b.tags q.live (members s before) kept.pairs
-    listed_old = old_listed s come.mid b t before after p q h m it x kept come.opens come.makes [] []
-
-    pair_new : IsPair b.tags q.live m (p.made + 1) x
-    pair_new = new_pair s come.mid b t before after p q h m it x kept come.opens come.makes [] []
-
-    pub at_front : t.rings ≡ map.insert b.rings h (m ∷ ring b h) → IsKept t after q × Enters (items_of s before p) (items_of t after q) it ((p.made + 1, x) ∷ (items_of s before p).pairs)
-    at_front rings = in_ring (m ∷ members s before) ((p.made + 1, x) ∷ kept.pairs) ((p.made + 1, x) ∷ (items_of s before p).pairs)
-        (rings ∙ ap (λ ms. map.insert b.rings h (m ∷ ms)) ring_is) (pair_new.tag, pair_new.node, listed_old) (λ j i. inr i) (inl refl) (ap (λ ps. (p.made + 1, x) ∷ ps) (sym old))
-
-    pub at_rear : t.rings ≡ map.insert b.rings h (ring b h ++ m ∷ []) → IsKept t after q × Enters (items_of s before p) (items_of t after q) it ((items_of s before p).pairs ++ (p.made + 1, x) ∷ [])
-    at_rear rings = in_ring (members s before ++ m ∷ []) (kept.pairs ++ (p.made + 1, x) ∷ []) ((items_of s before p).pairs ++ (p.made + 1, x) ∷ [])
-        (rings ∙ ap (λ ms. map.insert b.rings h (ms ++ m ∷ [])) ring_is) (listed_end b.tags q.live m (p.made + 1) x pair_new (members s before) kept.pairs listed_old)
-        (λ j i. in_left j (members s before) (m ∷ []) i) (in_right m (members s before) (m ∷ []) (inl refl)) (ap (λ ps. ps ++ (p.made + 1, x) ∷ []) (sym old))
-
-    module _ (k : ℕ) (n : Node X) (e : map.get p.live k ≡ Some n) where
-      pub beside_linked : IsLinkedIn b h n.member
-      beside_linked = record {
-        head = ap (λ r. is_some (map.get r h)) come.makes.rings ∙ come.opens.headed;
-        member = subst (IsIn n.member) (sym ring_is) (kept.found k n e).0;
-      }
-
-      pair_old : IsPair b.tags q.live n.member k n.value
-      pair_old = record {
-        tag = old_tags s come.mid b t before after p q h m it x kept come.opens come.makes [] [] n.member k (kept.found k n e).1;
-        node = old_live s come.mid b t before after p q h m it x kept come.opens come.makes [] [] k n e;
-      }
-
-      pub at_behind : ((g : ℕ) → IsLinkedIn b g n.member → t.rings ≡ map.insert b.rings g (with_after n.member m (ring b g)))
-          → IsKept t after q × Enters (items_of s before p) (items_of t after q) it (pairs_behind k (p.made + 1, x) (items_of s before p).pairs)
-      at_behind rings = in_ring (with_after n.member m (members s before)) (pairs_behind k (p.made + 1, x) kept.pairs) (pairs_behind k (p.made + 1, x) (items_of s before p).pairs)
-          (rings h beside_linked ∙ ap (λ ms. map.insert b.rings h (with_after n.member m ms)) ring_is)
-          (listed_behind b.tags q.live n.member k n.value pair_old m (p.made + 1) x pair_new (members s before) kept.pairs listed_old)
-          (λ j i. in_with_after j n.member m (members s before) i) (new_with_after n.member m (members s before) (kept.found k n e).0) (ap (pairs_behind k (p.made + 1, x)) (sym old))
-
-      pub at_before : ((g : ℕ) → IsLinkedIn b g n.member → t.rings ≡ map.insert b.rings g (with_before n.member m (ring b g)))
-          → IsKept t after q × Enters (items_of s before p) (items_of t after q) it (pairs_before k (p.made + 1, x) (items_of s before p).pairs)
-      at_before rings = in_ring (with_before n.member m (members s before)) (pairs_before k (p.made + 1, x) kept.pairs) (pairs_before k (p.made + 1, x) (items_of s before p).pairs)
-          (rings h beside_linked ∙ ap (λ ms. map.insert b.rings h (with_before n.member m ms)) ring_is)
-          (listed_before b.tags q.live n.member k n.value pair_old m (p.made + 1) x pair_new (members s before) kept.pairs listed_old)
-          (λ j i. in_with_before j n.member m (members s before) i) (new_with_before n.member m (members s before) (kept.found k n e).0) (ap (pairs_before k (p.made + 1, x)) (sym old))
-
-  pub beside_returns : (l : Items X) (s : ℕ) (x : X) (why : InsertRefusal X) → HasItem l s → Returns (items {X = X} [] l.made) x why → ReturnsBeside l s x (beside_of why)
-  beside_returns l s x (NoMemory y) has r = (r.0, has, r.1)
-  beside_returns l s x (Spent y) has r = (r.0, has, r.1)
-
   -- each member of the ring has the serial of a node
   pub named : (s : RingLists) (head : Option ℕ) (p : Contents (Node X)) → IsKept s head p → (m : ℕ) → IsIn m (members s head) → IsNamed s p m
   named s head p kept m i =
@@ -455,93 +246,6 @@ module _ {X : Type 0} where
     -- the member that was taken out is loose, and the ring of h is there
     pub head_stays : IsHead u h
     head_stays = ap (λ r. is_some (map.get r h)) (out h home) ∙ ap is_some (get_new s.rings h (without n.member (ring s h)))
-
-  -- the neighbours of an item
-  module _ (s : RingLists) (head : Option ℕ) (p : Contents (Node X)) (kept : IsKept s head p) (k : ℕ) (n : Node X) (e : map.get p.live k ≡ Some n) (before behind : List ℕ)
-      (has : HasBetween (items_of s head p) k before behind) where
-    pub around : Cut s.tags (members s head) k before behind
-    around = cut s.tags k before behind (members s head) (serials (items_of s head p).pairs) (tagged_now s head p kept) has
-
-    mid_in : IsIn around.mid (members s head)
-    mid_in = subst (IsIn around.mid) (sym around.is) (in_right around.mid around.front (around.mid ∷ around.rear) (inl refl))
-
-    mid_is : around.mid ≡ n.member
-    mid_is =
-        let w = named_listed s.tags p.live around.mid (members s head) kept.pairs kept.listed mid_in in
-        let j : w.0 ≡ k = some_same w.0 k (sym w.1.1.tag ∙ around.tag) in
-        ap (λ (o : Node X). o.member) (some_same (node w.1.0 around.mid) n (sym w.1.1.node ∙ ap (map.get p.live) j ∙ e))
-
-    pub ring_between : (h : ℕ) → head ≡ Some h → StandsBetween s h n.member around.front around.rear
-    ring_between h is = record {
-      head = subst (IsHeaded s) is kept.headed;
-      is = ap (members s) (sym is) ∙ around.is ∙ ap (λ m. around.front ++ m ∷ around.rear) mid_is;
-    }
-
-    pub stands : (h : ℕ) × StandsBetween s h n.member around.front around.rear
-    stands = let l = linked s head p kept k n e in (l.0, ring_between l.0 l.1.0)
-
-    pub rear_tags : Tagged s.tags around.rear behind
-    rear_tags = around.rears
-
-    pub front_tags : Tagged s.tags around.front before
-    front_tags = around.fronts
-
-    pub mid_tag : map.get s.tags n.member ≡ Some k
-    mid_tag = ap (map.get s.tags) (sym mid_is) ∙ around.tag
-
-    pub rears : List ℕ
-    rears = around.rear
-
-    pub next_is : (r : Option ℕ) → ((h : ℕ) (bs cs : List ℕ) → StandsBetween s h n.member bs cs → r ≡ front cs) → (m j : ℕ) → r ≡ Some m → map.get s.tags m ≡ Some j → Some j ≡ front behind
-    next_is r ens m j is tag = front_tag s.tags around.rear behind around.rears m j (sym is ∙ ens stands.0 around.front around.rear stands.1) tag
-
-    pub next_none : (r : Option ℕ) → ((h : ℕ) (bs cs : List ℕ) → StandsBetween s h n.member bs cs → r ≡ front cs) → r ≡ None → None ≡ front behind
-    next_none r ens is = front_none s.tags around.rear behind around.rears (sym is ∙ ens stands.0 around.front around.rear stands.1)
-
-    pub prev_is : (r : Option ℕ) → ((h : ℕ) (bs cs : List ℕ) → StandsBetween s h n.member bs cs → r ≡ back bs) → (m j : ℕ) → r ≡ Some m → map.get s.tags m ≡ Some j → Some j ≡ back before
-    prev_is r ens m j is tag = back_tag s.tags around.front before around.fronts m j (sym is ∙ ens stands.0 around.front around.rear stands.1) tag
-
-    pub prev_none : (r : Option ℕ) → ((h : ℕ) (bs cs : List ℕ) → StandsBetween s h n.member bs cs → r ≡ back bs) → r ≡ None → None ≡ back before
-    prev_none r ens is = back_none s.tags around.front before around.fronts (sym is ∙ ens stands.0 around.front around.rear stands.1)
-
-  -- the ends of the ring
-  module _ (s : RingLists) (head : Option ℕ) (p : Contents (Node X)) (kept : IsKept s head p) where
-    pub first_named : (h m : ℕ) → head ≡ Some h → Some m ≡ front (ring s h) → IsNamed s p m
-    first_named h m is e = named s head p kept m (front_in (members s head) m (e ∙ ap (λ o. front (members s o)) (sym is)))
-
-    pub last_named : (h m : ℕ) → head ≡ Some h → Some m ≡ back (ring s h) → IsNamed s p m
-    last_named h m is e = named s head p kept m (back_in (members s head) m (e ∙ ap (λ o. back (members s o)) (sym is)))
-
-    pub first_is : (h m k : ℕ) → head ≡ Some h → Some m ≡ front (ring s h) → map.get s.tags m ≡ Some k → Some k ≡ front (serials (items_of s head p).pairs)
-    first_is h m k is e tag = front_tag s.tags (members s head) (serials (items_of s head p).pairs) (tagged_now s head p kept) m k (e ∙ ap (λ o. front (members s o)) (sym is)) tag
-
-    pub last_is : (h m k : ℕ) → head ≡ Some h → Some m ≡ back (ring s h) → map.get s.tags m ≡ Some k → Some k ≡ back (serials (items_of s head p).pairs)
-    last_is h m k is e tag = back_tag s.tags (members s head) (serials (items_of s head p).pairs) (tagged_now s head p kept) m k (e ∙ ap (λ o. back (members s o)) (sym is)) tag
-
-    pub first_none : (h : ℕ) → head ≡ Some h → None ≡ front (ring s h) → None ≡ front (serials (items_of s head p).pairs)
-    first_none h is e = front_none s.tags (members s head) (serials (items_of s head p).pairs) (tagged_now s head p kept) (e ∙ ap (λ o. front (members s o)) (sym is))
-
-    pub last_none : (h : ℕ) → head ≡ Some h → None ≡ back (ring s h) → None ≡ back (serials (items_of s head p).pairs)
-    last_none h is e = back_none s.tags (members s head) (serials (items_of s head p).pairs) (tagged_now s head p kept) (e ∙ ap (λ o. back (members s o)) (sym is))
-
-  -- a member beside another is in the ring
-  pub next_named : (s : RingLists) (head : Option ℕ) (p : Contents (Node X)) (kept : IsKept s head p) (k : ℕ) (n : Node X) → map.get p.live k ≡ Some n
-      → (r : Option ℕ) → ((h : ℕ) (bs cs : List ℕ) → StandsBetween s h n.member bs cs → r ≡ front cs) → (m : ℕ) → r ≡ Some m → IsNamed s p m
-  next_named s head p kept k n e r ens m is =
-      let l = linked s head p kept k n e in
-      let c = cut_at n.member (ring s l.0) l.1.1.member in
-      let f : Some m ≡ front c.behind = sym is ∙ ens l.0 c.before c.behind (record { head = l.1.1.head; is = c.is }) in
-      let i : IsIn m (ring s l.0) = subst (IsIn m) (sym c.is) (in_right m c.before (n.member ∷ c.behind) (inr (front_in c.behind m f))) in
-      named s head p kept m (subst (IsIn m) (ap (members s) (sym l.1.0)) i)
-
-  pub prev_named : (s : RingLists) (head : Option ℕ) (p : Contents (Node X)) (kept : IsKept s head p) (k : ℕ) (n : Node X) → map.get p.live k ≡ Some n
-      → (r : Option ℕ) → ((h : ℕ) (bs cs : List ℕ) → StandsBetween s h n.member bs cs → r ≡ back bs) → (m : ℕ) → r ≡ Some m → IsNamed s p m
-  prev_named s head p kept k n e r ens m is =
-      let l = linked s head p kept k n e in
-      let c = cut_at n.member (ring s l.0) l.1.1.member in
-      let f : Some m ≡ back c.before = sym is ∙ ens l.0 c.before c.behind (record { head = l.1.1.head; is = c.is }) in
-      let i : IsIn m (ring s l.0) = subst (IsIn m) (sym c.is) (in_left m c.before (n.member ∷ c.behind) (back_in c.before m f)) in
-      named s head p kept m (subst (IsIn m) (ap (members s) (sym l.1.0)) i)
 
   -- the number of members is that of the pairs
   listed_len : (t : FinMap nat_cmp ℕ) (l : FinMap nat_cmp (Node X)) (ms : List ℕ) (ps : List (ℕ × X)) → IsListed t l ms ps → length ms ≡ length ps
@@ -618,39 +322,3 @@ module _ {X : Type 0} where
 
     pub items_given : items_of s head q ≡ items (pairs_with k v (items_of s head p).pairs) p.made
     items_given = items_now s head q (pairs_with k v kept.pairs) p.made listed_given made ∙ ap (λ (l : Items X). items (pairs_with k v l.pairs) p.made) (sym (items_are s head p kept))
-
-  -- the same round the ends of the ring
-  module _ (s : RingLists) (head : Option ℕ) (p : Contents (Node X)) (kept : IsKept s head p) (k : ℕ) (n : Node X) (e : map.get p.live k ≡ Some n) where
-    pub cyclic_next_named : (r : ℕ) → ((h : ℕ) (bs cs : List ℕ) → StandsBetween s h n.member bs cs → Some r ≡ front (cs ++ bs ++ n.member ∷ [])) → IsNamed s p r
-    cyclic_next_named r ens =
-        let l = linked s head p kept k n e in
-        let c = cut_at n.member (ring s l.0) l.1.1.member in
-        let f = ens l.0 c.before c.behind (record { head = l.1.1.head; is = c.is }) in
-        let i = round_behind r n.member c.before c.behind (front_in (c.behind ++ c.before ++ n.member ∷ []) r f) in
-        named s head p kept r (subst (IsIn r) (ap (members s) (sym l.1.0)) (subst (IsIn r) (sym c.is) i))
-
-    pub cyclic_prev_named : (r : ℕ) → ((h : ℕ) (bs cs : List ℕ) → StandsBetween s h n.member bs cs → Some r ≡ back (n.member ∷ cs ++ bs)) → IsNamed s p r
-    cyclic_prev_named r ens =
-        let l = linked s head p kept k n e in
-        let c = cut_at n.member (ring s l.0) l.1.1.member in
-        let f = ens l.0 c.before c.behind (record { head = l.1.1.head; is = c.is }) in
-        let i = round_before r n.member c.before c.behind (back_in (n.member ∷ c.behind ++ c.before) r f) in
-        named s head p kept r (subst (IsIn r) (ap (members s) (sym l.1.0)) (subst (IsIn r) (sym c.is) i))
-
-    module _ (before behind : List ℕ) (has : HasBetween (items_of s head p) k before behind) where
-      abbrev cyclic : Cut s.tags (members s head) k before behind
-      cyclic = around s head p kept k n e before behind has
-
-      between : (h : ℕ) × StandsBetween s h n.member cyclic.front cyclic.rear
-      between = stands s head p kept k n e before behind has
-
-      pub cyclic_next_is : (r j : ℕ) → ((h : ℕ) (bs cs : List ℕ) → StandsBetween s h n.member bs cs → Some r ≡ front (cs ++ bs ++ n.member ∷ [])) → map.get s.tags r ≡ Some j → Some j ≡ front (behind ++ before ++ k ∷ [])
-      cyclic_next_is r j ens tag = front_tag s.tags (cyclic.rear ++ cyclic.front ++ n.member ∷ []) (behind ++ before ++ k ∷ [])
-          (tagged_join s.tags (cyclic.rear ++ cyclic.front) (behind ++ before) (n.member ∷ []) (k ∷ [])
-          (tagged_join s.tags cyclic.rear behind cyclic.front before cyclic.rears cyclic.fronts) (mid_tag s head p kept k n e before behind has, tt))
-          r j (ens between.0 cyclic.front cyclic.rear between.1) tag
-
-      pub cyclic_prev_is : (r j : ℕ) → ((h : ℕ) (bs cs : List ℕ) → StandsBetween s h n.member bs cs → Some r ≡ back (n.member ∷ cs ++ bs)) → map.get s.tags r ≡ Some j → Some j ≡ back (k ∷ behind ++ before)
-      cyclic_prev_is r j ens tag = back_tag s.tags (n.member ∷ cyclic.rear ++ cyclic.front) (k ∷ behind ++ before)
-          (mid_tag s head p kept k n e before behind has, tagged_join s.tags cyclic.rear behind cyclic.front before cyclic.rears cyclic.fronts)
-          r j (ens between.0 cyclic.front cyclic.rear between.1) tag

@@ -2,7 +2,8 @@
 use Rattle.std.proofs.Common.{subst}
 use Rattle.item_list.specs.Items.{Items, Lacks, IsCyclicBefore}
 use Rattle.item_list.proofs.Exits.{err_out}
-use Rattle.item_list.proofs.Steps.{holds, lacks, is_linked, cyclic_prev_named, cyclic_prev_is}
+use Rattle.item_list.proofs.Neighbours.{cyclic_prev_named, cyclic_prev_is}
+use Rattle.item_list.proofs.Steps.{holds, lacks, is_linked}
 use Rattle.item_list.proofs.list.List.cyclic_pred.Goals as goal
 
 pub cyclic_prev-prev-requires : goal.cyclic_prev-prev-requires

@@ -2,7 +2,8 @@
 use Rattle.std.proofs.Common.{subst}
 use Rattle.item_list.specs.Items.{Items, Lacks, IsCyclicBehind}
 use Rattle.item_list.proofs.Exits.{err_out}
-use Rattle.item_list.proofs.Steps.{holds, lacks, is_linked, cyclic_next_named, cyclic_next_is}
+use Rattle.item_list.proofs.Neighbours.{cyclic_next_named, cyclic_next_is}
+use Rattle.item_list.proofs.Steps.{holds, lacks, is_linked}
 use Rattle.item_list.proofs.list.List.cyclic_succ.Goals as goal
 
 pub cyclic_next-next-requires : goal.cyclic_next-next-requires

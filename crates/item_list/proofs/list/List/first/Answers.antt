@@ -1,5 +1,5 @@
 -- The first member has the first serial for its tag.
-use Rattle.item_list.proofs.Steps.{first_named}
+use Rattle.item_list.proofs.Neighbours.{first_named}
 use Rattle.item_list.proofs.list.List.first.Goals as goal
 
 pub item_at-requires : goal.item_at-requires

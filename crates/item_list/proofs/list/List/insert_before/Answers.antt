@@ -3,7 +3,8 @@ use Rattle.std.proofs.Common.{◌≡◌, ◌+◌, refl, subst, ◌∙◌}
 use Rattle.item_list.specs.Items.{Items, Enters, HasItem, Lacks, ReturnsBeside, beside_of, pairs_before}
 use Rattle.item_list.specs.Kept.{items_of}
 use Rattle.item_list.proofs.Exits.{err_out}
-use Rattle.item_list.proofs.Steps.{holds, lacks, beside_linked, at_before, beside_returns, kept_out, items_out}
+use Rattle.item_list.proofs.Enters.{beside_linked, at_before, beside_returns, kept_out, items_out}
+use Rattle.item_list.proofs.Steps.{holds, lacks}
 use Rattle.item_list.proofs.list.List.insert_before.Goals as goal
 
 pub returns-in-Err-clause-err : goal.returns-in-Err-clause-err

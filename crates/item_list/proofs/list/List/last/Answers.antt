@@ -2,7 +2,7 @@
 use Rattle.std.proofs.Common.{◌≡◌, Some, None, subst}
 use Rattle.item_ring.specs.RingLists.{back}
 use Rattle.item_list.specs.Items.{Items, serials}
-use Rattle.item_list.proofs.Steps.{last_named, last_is, last_none}
+use Rattle.item_list.proofs.Neighbours.{last_named, last_is, last_none}
 use Rattle.item_list.proofs.list.List.last.Goals as goal
 
 pub item_at-requires : goal.item_at-requires

@@ -2,7 +2,8 @@
 use Rattle.std.proofs.Common.{Some, None, refl, subst}
 use Rattle.item_list.specs.Items.{Items, Lacks, IsBefore}
 use Rattle.item_list.proofs.Exits.{err_out}
-use Rattle.item_list.proofs.Steps.{holds, lacks, is_linked, prev_named, prev_is, prev_none}
+use Rattle.item_list.proofs.Neighbours.{prev_named, prev_is, prev_none}
+use Rattle.item_list.proofs.Steps.{holds, lacks, is_linked}
 use Rattle.item_list.proofs.list.List.pred.Goals as goal
 
 pub prev-requires : goal.prev-requires

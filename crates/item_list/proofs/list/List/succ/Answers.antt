@@ -2,7 +2,8 @@
 use Rattle.std.proofs.Common.{Some, None, refl, subst}
 use Rattle.item_list.specs.Items.{Items, Lacks, IsBehind}
 use Rattle.item_list.proofs.Exits.{err_out}
-use Rattle.item_list.proofs.Steps.{holds, lacks, is_linked, next_named, next_is, next_none}
+use Rattle.item_list.proofs.Neighbours.{next_named, next_is, next_none}
+use Rattle.item_list.proofs.Steps.{holds, lacks, is_linked}
 use Rattle.item_list.proofs.list.List.succ.Goals as goal
 
 pub next-requires : goal.next-requires
