@@ -1,6 +1,7 @@
 pub mod Blocks
 pub mod Plans
 pub mod Edits
+pub mod Ends
 pub mod Links
 pub mod Looks
 pub mod Lists
@@ -11,6 +12,7 @@ pub mod Callers
 pub mod Counts
 pub mod Holds
 pub mod Unlinks
+pub mod Rooms
 pub mod Rows
 pub mod Shares
 pub mod Stock

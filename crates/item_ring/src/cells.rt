@@ -51,19 +51,17 @@ pub(crate) fn allocate<T, A: Allocator>(
     requires { FitsInBlock T.row len }
     ensures { IfOk result (λ r. (r.1.at ≡ r.0.at) × (r.1.slots ≡ replicate len None) × (r.2.at ≡ r.0.at) × (r.2.len ≡ len) × (r.2.alloc ≡ alloc.now)) }
 {
-    match alloc.allocate(len * size_of::<T>(), align_of::<T>()) {
-        Ok(block) => {
-            let start = Link {
-                at: block as *const u8,
-            };
-            Ok((
-                start,
-                Cells { mark: PhantomData },
-                Deed { mark: PhantomData },
-            ))
-        }
-        Err(error) => Err(error),
-    }
+    let Ok(block) = alloc.allocate(len * size_of::<T>(), align_of::<T>()) else {
+        return Err(AllocError);
+    };
+    let start = Link {
+        at: block as *const u8,
+    };
+    Ok((
+        start,
+        Cells { mark: PhantomData },
+        Deed { mark: PhantomData },
+    ))
 }
 
 /// Gives the block back. The values that stand in it are forgotten.

@@ -1,132 +1,70 @@
--- `allocate` makes places of a new block, and keeps the right to give it back. Assumes `Logic`.
-use Rattle.item_ring.proofs.Steps.{◌≡◌, refl, sym, ap, subst, true, false, ℕ, ◌*◌, ◌<◌, ◌^◌, arith, List, [], ◌∷◌, ◌++◌, length, replicate, length-replicate, lit<, Ura, Fn, Body, named, w64, ty_array, inst_fn, Val, vptr, vint, vstruct, vcons, vnil, SProp, ent, Lft, Share, Incl-trans, ftrue, flft, Memory, align, capped, capped_fits, Routine, Env, Calls, Loops, Wp, WpFn, Tables, after_seq, at_return, Logic, Fun, fact, tables_of, tables, ◌⊑◌, WpFn-mono, FmC, fm_of, Item, ⋆, ‵, raw, later, ◌⊛◌, at_ret, any_q, ◌$◌, ◌∵◌, !, qed, by, move, keep, use0, use1, use2, use3, split, join, await, fsplit, fsplit3, fjoin, feq_l, flt_i, flt_l, suffices, frame, done, whole, agg, live, vrt, in_variant, stop, fld, lit, of_opd, bin, size_word, align_word, and_then, no_more, first, exec, returns, enter, switches_on, alloc_all, pass_all, free_all, look_at, get, get_in, get_tag, is, sets, sets_last, lands_as, env, yes, RattleType, owns, Is, hidden_shr, layout, Ptr, block_ptr, Bor, ShrRef, RefOf, usize, plain, nothing, owned, Struct, Struct-Makes, Tuple, calls_at, Clauses, Ended, closing, on_entry, Meets, triple_of, Triple, entered, says, needs, Stays, stay_dropped, walk_of, ends_at, Goes-dropped, walk_Meets, None, IfOk, Ok, Err, FitsInBlock, Al, second, Answer-typed, takes_key, Takes, at_takes, Answered, Takes-goes, Takes-gives, answers, El, R, elτ, uncapped, block_ty, block_size, block_align, P, as_written, Good, first_Good, word, word-Good, ok_of, err_of, after, head, arm_body, places, Ln, Cr, Mark, size, mark, mark_made, link_made, triple_val, triple_made, of_room}
-use denote.Struct.Declared as Declared
-use Rattle.core.proofs.slots.Leases.{args}
-use Rattle.core.specs.contracts.result.Result as RS
-use Rattle.core.specs.contracts.alloc.AllocError as AE
-use Rattle.item_ring.specs.contracts.cells.Deed as D-type
-use Rattle.item_ring.specs.contracts.cells.allocate as F
-use Rattle.item_ring.specs.contracts.cells.allocate.Key.{name as #self}
-use Rattle.item_ring.proofs.cells.allocate.Statement as stated
+-- `allocate` lends its handle to the allocator for one call, and asks for the bytes of `len` values.
+-- A block comes as room and a token. The room becomes the owner of `len` empty places, the token the deed, and both go out beside the link to the first place.
+-- A refusal is passed on, with nothing made. Assumes `Logic`.
+use Rattle.item_ring.proofs.Steps.{◌≡◌, refl, ap, true, false, ◌*◌, ◌<◌, ◌^◌, arith, [], ◌∷◌, replicate, w64, Val, vint, emp, fact_i, flft, Incl-trans, fact, ◌⊑◌, tables, toks, ‵, raw, ◌⊛◌, later, prop, at_ret, Sq, ◌$◌, ◌∵◌, !, qed, by, move, keep, drop, use0, use1, use2, split, fsplit, fsplit3, await, whole, agg, vrt, in_variant, stop, fld, lit, of_opd, bin, size_word, align_word, and_then, no_more, first, exec, returns, returns_within, enter, switches_on, alloc_all, pass_all, free_all, look_at, get, get_in, get_tag, is, sets, sets_last, lands_as, env, heard, proved, shr_vals, shr_Tells, uint_vals, uint_Tells, named, owns, ShrRef, usize, framed, calls_at, walk_of, None, IfOk, Err, FitsInBlock, Al, Answer-typed, Takes, Answered, answers, El, R, args, P, uncapped, block_ty, inst_fn, lit<, block_ptr, after, head, arm_body, word-Good, size, Spent, all_go, returned, then_on, Handed, handed, handed_out, refused, refused_val, handed_val, Three, three_val, Good, layout, Asking, asks, answered}
+use Rattle.item_ring.specs.contracts.cells.allocate as contract
+use Rattle.item_ring.specs.contracts.cells.allocate.Key.{name}
+use Rattle.item_ring.proofs.cells.allocate.Statement.{statement}
 use Rattle.item_ring.proofs.cells.allocate.Code as code
 
-module _ (E : El) (Z : Al) where
-  abbrev function : Fn
-  function = inst_fn (args E Z) code.function
-
-  abbrev ended : Ended
-  ended = F.ended E.row Z.row Z.g Z.d Z.drops
-
-  abbrev clauses : {M : Type 1} {𝓤 : Ura M} (𝓛 : Logic 𝓤) → (Memory → SProp 𝓤) → (Routine → Fun 𝓤) → Clauses 𝓤 ended
-  clauses 𝓛 = F.clauses E.row Z.row Z.g Z.d Z.drops 𝓛
-
-  abbrev Dd : RattleType
-  Dd = D-type.the_row (R E) (P E Z) Z.g
-
-  abbrev stayed : Stays ended.signature.params ended.kept
-  stayed = (stay_dropped (RefOf (0 ∷ []) tt (plain (λ _. P E Z)) (λ _. tt)) yes, (stay_dropped (plain (λ _. usize)) yes, tt))
-
-  abbrev Parts : RattleType
-  Parts = Tuple (Ln ∷ Cr E ∷ Dd ∷ [])
-
-  abbrev Out : RattleType
-  Out = RS.the_row Parts AE.the_row
-
-module _ (E : El) (Z : Al) {M : Type 1} {𝓤 : Ura M} (𝓛 : Logic 𝓤) (at_mem : Memory → SProp 𝓤) (run : Routine → Fun 𝓤) (C : Calls 𝓤 𝓛.H) (Λ : Loops 𝓤 𝓛.H) (fm : FmC 𝓤 𝓛.H 𝓛.laws C)
-    (callee : Triple 𝓤 (C (takes_key Z)) (Takes Z 𝓛 at_mem run)) (κ κ₁ κ₂ : Lft) (q q₁ q₂ : Share) (short : κ ⊑ κ₂) (within : κ₂ ⊑ Z.row.lives) (rb ro : ℕ) (a : Z.row.Denot) (len : ℕ) (us0 us1 : List Val) where
-  open 𝓛 use {H}
-
-  abbrev self : Bor Z.row.Denot
-  self = record { ref_ptr = (rb, ro); now = a }
-
-  abbrev others : Item 𝓤
-  others = ‵ (flft κ₁ q₁) ⊛ ‵ (flft κ₂ q₂) ⊛ ‵ ftrue
-
-  abbrev bound : (walk_of 𝓛 (ended E Z) (stayed E Z) (clauses E Z 𝓛 at_mem run)).Ghost
-  bound = (((κ, (κ₁, (κ₂, tt))), (q, (q₁, (q₂, tt))), (short, tt), (self, (len, tt)), (us0, (us1, tt))), tt)
-
-  abbrev Post : Val → SProp 𝓤
-  Post = (walk_of 𝓛 (ended E Z) (stayed E Z) (clauses E Z 𝓛 at_mem run)).post bound
-
-  exits : (r : (Out E Z).Denot) (v : Val) → IfOk r (λ t. (t.1.at ≡ t.0.at) × (t.1.slots ≡ replicate len None) × (t.2.at ≡ t.0.at) × (t.2.len ≡ len) × (t.2.alloc ≡ a))
-      → ent 𝓤 (⋆ 𝓛 (‵ ((Out E Z).own_val r (v ∷ [])) ∷ ‵ (flft κ q) ∷ others ∷ [])) (Post v)
-  exits r v promised =
-      qed 𝓛 (‵ ((Out E Z).own_val r (v ∷ [])) ∷ ‵ (flft κ q) ∷ others ∷ []) ∵
-      suffices ! _ (ends_at 𝓛 (ended E Z) (stayed E Z) (clauses E Z 𝓛 at_mem run) bound v r (tt, (tt, tt)) (tt, (tt, tt))) $ says ! promised $
-      move ! (1 ∷ 2 ∷ []) $ join ! $ frame ! $ nothing ! $ nothing ! $ fjoin ! $ nothing ! $ fjoin ! $ done !
-
-  abbrev Had : List (Item 𝓤)
-  Had = ‵ (hidden_shr (P E Z) κ a rb ro) ∷ ‵ (flft κ q) ∷ others ∷ []
-
-  walk : FitsInBlock (R E) len → len < 2 ^ 64 → ent 𝓤 (⋆ 𝓛 Had) (WpFn 𝓤 H C Λ (function E Z) (vptr rb ro ∷ vint w64 len ∷ []) Post)
-  walk asked fits =
-      let s = size E in let small : len * s < 2 ^ 63 = asked.0 in let bytes : len * s < 2 ^ 64 = omega arith in
-      qed 𝓛 Had ∵ enter ! C Λ (function E Z) (vptr rb ro ∷ vint w64 len ∷ []) _ $ alloc_all ! (λ l. pass_all ! refl ((tt, tt), ((tt, record { fits = fits }), tt)) $
-      let En : Env 𝓤 H = env (function E Z).locals l in
-      let both : Body = head (after 2 (function E Z).body) in
-      let Then = any_q (after_seq 𝓤 H (Wp 𝓤 H C Λ En (after 3 (function E Z).body) (at_return 𝓤 H En Post)) (at_return 𝓤 H En Post)) in
-      let al : ℕ = capped (align (elτ E)) in
-      let y : (Takes Z 𝓛 at_mem run).Ghost = at_takes Z 𝓛 at_mem run κ q (rb, ro) a (len * s) al (block_ty E len) in
-      sets ! (is ! (bin ! (get ! refl) (size_word !) (record { fits = subst (λ (k : ℕ). k < 2 ^ 64) (sym (uncapped len s bytes)) bytes })) (ap (vint w64) (uncapped len s bytes))) refl (tt, record { fits = bytes }) $
-      use2 𝓛 (raw ((Takes Z 𝓛 at_mem run).pre y)) (Takes-goes Z 𝓛 at_mem run κ q (rb, ro) a (Incl-trans short within) (len * s) al (block_ty E len) (block_size E len bytes) (block_align E len) bytes (capped_fits (align (elτ E)))) $
-      calls_at ! fm (Takes Z 𝓛 at_mem run) callee y (and_then ! (get ! refl) (and_then ! (get ! refl) (and_then ! (align_word !) (no_more !)))) (λ v.
-      use1 𝓛 (later (raw (Answered Z 𝓛 at_mem run a (block_ty E len) v) ⊛ ‵ (flft κ q))) (Takes-gives Z 𝓛 at_mem run κ q (rb, ro) a (len * s) al (block_ty E len) v) $ await ! tt $ split ! $
-      answers Z ! at_mem run a (block_ty E len) v
-      (λ b o e.
-      let p : Ptr = block_ptr b o in
-      let start : Ln.Denot = record { at = p } in
-      let cells : (Cr E).Denot = record { mark = record {}; at = p; slots = replicate len None } in
-      let deed : (Dd E Z).Denot = record { mark = record {}; at = p; len = len; alloc = a } in
-      let made : Val = triple_val (word p) mark mark in
-      let typed : Good (layout (Parts E Z)) made = (tt, ((tt, tt), ((tt, tt), ((tt, tt), tt)))) in
-      let ok = first_Good (layout (Parts E Z)) made typed in
-      lands_as ! e refl (Answer-typed true b o) $ first ! $ switches_on ! (get_tag ! (vrt ! refl (fld ! refl (stop !))) (whole !)) $ exec ! C Λ En (arm_body 0 both) Then $
-      sets ! (of_opd ! (get_in ! (vrt ! refl (fld ! refl (stop !))) (in_variant ! 0 0 refl refl (whole !)))) refl (tt, tt) $ sets ! (of_opd ! (get ! refl)) refl (tt, tt) $
-      sets ! (agg ! (and_then ! (get ! refl) (no_more !))) refl (word-Good [] p) $
-      sets ! (agg ! (no_more !)) refl (tt, tt) $ sets ! (agg ! (and_then ! (get ! refl) (no_more !))) refl (tt, (tt, tt)) $
-      sets ! (agg ! (no_more !)) refl (tt, tt) $ sets ! (agg ! (and_then ! (get ! refl) (no_more !))) refl (tt, (tt, tt)) $
-      sets ! (agg ! (and_then ! (get ! refl) (and_then ! (get ! refl) (and_then ! (get ! refl) (no_more !))))) refl typed $
-      sets_last ! (agg ! (and_then ! (lit ! tt) (and_then ! (get ! refl) (no_more !)))) refl ok $
-      exec ! C Λ En (after 3 (function E Z).body) (at_ret En Post) $ sets ! (of_opd ! (get ! refl)) refl ok $
-      move ! (1 ∷ []) $ use0 𝓛 (‵ ((Mark E).own_val (tt, tt) (mark ∷ []))) (mark_made E 𝓛) $ fjoin ! $ move ! (1 ∷ []) $
-      as_written ! (ty_array (elτ E) len) b o $ use1 𝓛 (‵ (places (R E) b o cells.slots)) (of_room E 𝓛 b len o) $
-      flt_i ! (length cells.slots * s) (2 ^ 63) (subst (λ k. k * s < 2 ^ 63) (sym (length-replicate len None)) small) $ fjoin ! $
-      use0 𝓛 (‵ ((Mark E).own_val (tt, tt) (mark ∷ []))) (mark_made E 𝓛) $ fjoin ! $ link_made ! p $
-      use3 𝓛 (‵ ((Parts E Z).own_val (start, cells, deed) (made ∷ []))) (triple_made 𝓛 Ln (Cr E) (Dd E Z) start cells deed (word p) mark mark) $
-      use1 𝓛 (‵ ((Out E Z).own_val (Ok (start, cells, deed)) (live 0 (vcons made vnil) ∷ []))) (ok_of 𝓛 (Parts E Z) AE.the_row (start, cells, deed) made) $
-      returns ! (look_at ! 0 refl) $ free_all ! refl $ keep ! (0 ∷ 1 ∷ 2 ∷ []) $ by ! (exits (Ok (start, cells, deed)) (live 0 (vcons made vnil)) (refl, refl, refl, refl, refl)))
-      (λ e.
-      let Refusal : RattleType = Struct (Declared.shape AE.the_type) in
-      let none : Val = live 1 (vcons (vstruct vnil) vnil) in
-      lands_as ! e refl (Answer-typed false 0 0) $ first ! $ switches_on ! (get_tag ! (vrt ! refl (fld ! refl (stop !))) (whole !)) $ exec ! C Λ En (arm_body 1 both) Then $
-      sets ! (of_opd ! (get_in ! (vrt ! refl (fld ! refl (stop !))) (in_variant ! 1 0 refl refl (whole !)))) refl (tt, tt) $
-      sets_last ! (agg ! (and_then ! (lit ! tt) (and_then ! (get ! refl) (no_more !)))) refl (tt, (record { fits = lit< tt }, (tt, tt))) $
-      exec ! C Λ En (after 3 (function E Z).body) (at_ret En Post) $ sets ! (of_opd ! (get ! refl)) refl (tt, (record { fits = lit< tt }, (tt, tt))) $
-      owned ! Refusal (Is Refusal) (Struct-Makes 𝓛 (Declared.shape AE.the_type) tt) tt (vstruct vnil ∷ []) (tt, (refl, tt)) $
-      use1 𝓛 (‵ ((Out E Z).own_val (Err (record {})) (none ∷ []))) (err_of 𝓛 (Parts E Z) AE.the_row (record {}) (vstruct vnil)) $
-      returns ! (look_at ! 0 refl) $ free_all ! refl $ keep ! (0 ∷ 1 ∷ 2 ∷ []) $ by ! (exits (Err (record {})) none tt))))
-
-  entry : FitsInBlock (R E) len → ent 𝓤 (on_entry 𝓛 (ended E Z).signature (κ, (κ₁, (κ₂, tt))) (q, (q₁, (q₂, tt))) (self, (len, tt)) (us0, (us1, tt))) (WpFn 𝓤 H C Λ (function E Z) (us0 ++ (us1 ++ [])) Post)
-  entry asked =
-      qed 𝓛 ((‵ (flft κ q) ⊛ others) ∷ ‵ (owns (ShrRef (named 0) κ (P E Z) ∷ usize ∷ []) (self, (len, tt)) (us0, (us1, tt))) ∷ []) ∵ split ! $ move ! (2 ∷ []) $ fsplit3 ! $ fsplit ! $ feq_l ! (λ e0.
-      move ! (1 ∷ []) $ fsplit ! $ feq_l ! (λ e1. flt_l ! (λ fits. keep ! (0 ∷ 2 ∷ 3 ∷ []) $
-      by ! (subst (λ (ws : List Val × List Val). ent 𝓤 (⋆ 𝓛 Had) (WpFn 𝓤 H C Λ (function E Z) (ws.0 ++ (ws.1 ++ [])) Post)) (λ j. (sym e0 j, sym e1 j)) (walk asked fits)))))
-
-meets : (E : El) (Z : Al) {M : Type 1} {𝓤 : Ura M} (𝓛 : Logic 𝓤) (at_mem : Memory → SProp 𝓤) (run : Routine → Fun 𝓤) (𝓣 : Tables 𝓤 𝓛.H) → Triple 𝓤 (𝓣.C (takes_key Z)) (Takes Z 𝓛 at_mem run)
-    → Meets 𝓛 (ended E Z).signature (WpFn 𝓤 𝓛.H 𝓣.C 𝓣.Λ (function E Z)) (closing 𝓛 (ended E Z) (clauses E Z 𝓛 at_mem run))
-meets E Z {𝓤 = 𝓤} 𝓛 at_mem run 𝓣 callee =
-    walk_Meets 𝓛 (ended E Z) (stayed E Z) (Goes-dropped 𝓛 3 (RefOf (0 ∷ []) tt (plain (λ _. P E Z)) (λ _. tt)) yes (λ κs x f. refl), (Goes-dropped 𝓛 3 (plain (λ _. usize)) yes (λ κs x f. refl), tt))
-    (clauses E Z 𝓛 at_mem run) (WpFn 𝓤 𝓛.H 𝓣.C 𝓣.Λ (function E Z)) (WpFn-mono 𝓤 𝓛.H 𝓛.laws 𝓣 (function E Z))
-    (λ z. let κs = z.0.0 in let qs = z.0.1 in let a = z.0.3 in let vss = z.0.4 in let On : SProp 𝓤 = on_entry 𝓛 (ended E Z).signature κs qs a vss in
-    let asks = FitsInBlock (R E) a.1.0 in
-    second 𝓤 (κs.1.0 ⊑ E.row.lives) (κs.1.1.0 ⊑ Z.row.lives) On (fact 𝓤 asks) (λ within. needs 𝓤 asks On
-    (entry E Z 𝓛 at_mem run 𝓣.C 𝓣.Λ (fm_of 𝓤 𝓛.H 𝓛.laws 𝓣) callee κs.0 κs.1.0 κs.1.1.0 qs.0 qs.1.0 qs.1.1.0 z.0.2.0 within a.0.ref_ptr.0 a.0.ref_ptr.1 a.0.now a.1.0 vss.0 vss.1.0)))
-
-pub allocate_spec : {M : Type 1} → stated.statement M
-unfolding tables_of
-allocate_spec 𝓤 𝓛 𝓜 𝓡 wired X W LX LW g d dd met md =
+pub allocate_spec : {M : Type 1} → statement M
+allocate_spec 𝓤 𝓛 𝓜 𝓡 wired X Y LX LY g d dd met md =
     let E : El = record { row = X; laws = LX } in
-    let Z : Al = record { row = W; laws = LW; g = g; d = d; drops = dd } in
-    let 𝓣 : Tables 𝓤 𝓛.H = tables_of 𝓤 𝓛.H 𝓜 (tables 𝓤 𝓛.H 𝓜 𝓡 𝓡.env) in
-    entered 𝓤 𝓛.H (triple_of 𝓛 (ended E Z).signature (F.spec X W g d dd 𝓛 𝓜.mem 𝓡.returns)) 𝓣.C 𝓣.Λ (#self (args E Z)) (function E Z) (code.unfolded 𝓤 𝓛.H 𝓜 𝓡 wired (X, (W, tt)) d dd)
-    (meets E Z 𝓛 𝓜.mem 𝓡.returns 𝓣 (met.allocate dd))
+    let Z : Al = record { row = Y; laws = LY; g = g; d = d; drops = dd } in
+    let T = contract.ended X Y g d dd in
+    let c = contract.clauses X Y g d dd 𝓛 𝓜.mem 𝓡.returns in
+    let 𝓣 = tables 𝓤 𝓛.H 𝓜 𝓡 𝓡.env in
+    let function = inst_fn (args E Z) code.function in
+    proved 𝓛 T (Spent 𝓛 T c) c 𝓜 𝓡 (all_go 𝓛 3 T.signature.params T.kept ((λ κs x f. refl), ((λ κs x f. refl), tt)))
+    (name (args E Z)) function (code.unfolded 𝓤 𝓛.H 𝓜 𝓡 wired (X, (Y, tt)) d dd)
+    (λ κs. (shr_vals, (uint_vals w64, tt))) (λ κs. (shr_Tells (named 0) κs.0 (P E Z), (uint_Tells w64, tt)))
+    (λ κs qs bounds a n are.
+    let κ = κs.0 in let q = qs.0 in let handle = a.0 in let len = a.1.0 in
+    let W = walk_of 𝓛 T (Spent 𝓛 T c) c in
+    let y : W.Ghost = ((κs, qs, bounds, a, (shr_vals handle, (uint_vals w64 len, tt))), n) in
+    let others = toks 𝓛 2 κs.1 qs.1 in
+    let ends : (r : (Handed E Z).Denot) (v : Val) → IfOk r (λ t. (t.1.at ≡ t.0.at) × (t.1.slots ≡ replicate len None) × (t.2.at ≡ t.0.at) × (t.2.len ≡ len) × (t.2.alloc ≡ handle.now))
+    → Sq 𝓛 (‵ ((Handed E Z).own_val r (v ∷ [])) ∷ ‵ (flft κ q) ∷ raw others ∷ []) (prop (W.post y v)) = λ r v promised.
+    by ! (returned 𝓛 T c y v r (tt, (tt, tt)) (fact_i 𝓤 _ (emp 𝓤) promised)) in
+    qed 𝓛 (((‵ (flft κ q) ⊛ raw others) ⊛ ‵ (owns (ShrRef (named 0) κ (P E Z) ∷ usize ∷ []) (handle, (len, tt)) y.0.4))
+    ∷ (raw (fact 𝓤 (κs.1.0 ⊑ X.lives)) ⊛ raw (fact 𝓤 (κs.1.1.0 ⊑ Y.lives)) ⊛ raw (fact 𝓤 (FitsInBlock (R E) len))) ∷ []) ∵
+    split ! $ split ! $ move ! (3 ∷ []) $ split ! $ drop ! $ split ! $ heard ! _ (λ within. heard ! _ (λ asked.
+    -- [the token; the other tokens; the parameters]
+    move ! (2 ∷ []) $ fsplit3 ! $ fsplit ! $ drop ! $ keep ! (0 ∷ 3 ∷ 4 ∷ []) $
+    let fit : len * size E < 2 ^ 64 = let small = asked.0 in omega arith in
+    let as_is = uncapped len (size E) fit in
+    enter ! _ _ _ _ _ $ alloc_all ! (λ l. pass_all ! refl ((tt, tt), ((tt, record { fits = are.1.0.1 }), tt)) $
+    let behind = then_on 𝓤 𝓛.H 𝓣.C 𝓣.Λ (env function.locals l) (after 3 function.body) (W.post y) in
+    sets ! (is ! (bin ! (get ! refl) (size_word !) (record { fits = rw as_is fit })) (ap (vint w64) as_is)) refl (tt, record { fits = fit }) $
+    use2 𝓛 (raw ((Takes Z 𝓛 𝓜.mem 𝓡.returns).pre (Asking E Z 𝓛 𝓜.mem 𝓡.returns κ q handle len))) (asks E Z 𝓛 𝓜.mem 𝓡.returns κ q handle len (Incl-trans bounds.0 within) fit) $
+    calls_at ! (framed 𝓤 𝓛.H 𝓜 𝓣) (Takes Z 𝓛 𝓜.mem 𝓡.returns) (met.allocate dd) (Asking E Z 𝓛 𝓜.mem 𝓡.returns κ q handle len)
+    (and_then ! (get ! refl) (and_then ! (get ! refl) (and_then ! (align_word !) (no_more !)))) (λ v.
+    use1 𝓛 (later (raw (Answered Z 𝓛 𝓜.mem 𝓡.returns handle.now (block_ty E len) v) ⊛ ‵ (flft κ q))) (answered E Z 𝓛 𝓜.mem 𝓡.returns κ q handle len v) $ await ! tt $ split ! $
+    answers Z ! 𝓜.mem 𝓡.returns handle.now (block_ty E len) v
+    (λ b o given.
+    -- [the room; its token; the lifetime's token; the other tokens]
+    let p = block_ptr b o in
+    lands_as ! given refl (Answer-typed true b o) $
+    first ! $ switches_on ! (get_tag ! (vrt ! refl (fld ! refl (stop !))) (whole !)) $
+    exec ! 𝓣.C 𝓣.Λ (env function.locals l) (arm_body 0 (head (after 2 function.body))) behind $
+    sets_last ! (of_opd ! (get_in ! (vrt ! refl (fld ! refl (stop !))) (in_variant ! 0 0 refl refl (whole !)))) refl (tt, tt) $
+    exec ! 𝓣.C 𝓣.Λ (env function.locals l) (after 3 function.body) (at_ret _ (W.post y)) $
+    sets ! (of_opd ! (get ! refl)) refl (tt, tt) $
+    sets ! (agg ! (and_then ! (get ! refl) (no_more !))) refl (word-Good [] p) $
+    sets ! (agg ! (no_more !)) refl (tt, tt) $
+    sets ! (agg ! (and_then ! (get ! refl) (no_more !))) refl (tt, (tt, tt)) $
+    sets ! (agg ! (no_more !)) refl (tt, tt) $
+    sets ! (agg ! (and_then ! (get ! refl) (no_more !))) refl (tt, (tt, tt)) $
+    let typed : Good (layout (Three E Z)) (three_val p) = (tt, ((tt, tt), ((tt, tt), ((tt, tt), tt)))) in
+    sets ! (agg ! (and_then ! (get ! refl) (and_then ! (get ! refl) (and_then ! (get ! refl) (no_more !))))) refl typed $
+    sets ! (agg ! (and_then ! (lit ! tt) (and_then ! (get ! refl) (no_more !)))) refl (tt, (record { fits = lit< tt }, (typed.1, tt))) $
+    use2 𝓛 (‵ ((Handed E Z).own_val (handed E Z 𝓛 len handle.now b o) (handed_val p ∷ []))) (handed_out E Z 𝓛 len handle.now b o asked.0) $
+    returns ! (look_at ! 0 refl) $ free_all ! refl $ keep ! (0 ∷ 1 ∷ 2 ∷ []) $ ends (handed E Z 𝓛 len handle.now b o) (handed_val p) (refl, refl, refl, refl, refl))
+    (λ given.
+    lands_as ! given refl (Answer-typed false 0 0) $
+    first ! $ switches_on ! (get_tag ! (vrt ! refl (fld ! refl (stop !))) (whole !)) $
+    exec ! 𝓣.C 𝓣.Λ (env function.locals l) (arm_body 1 (head (after 2 function.body))) behind $
+    sets ! (agg ! (no_more !)) refl (tt, tt) $
+    sets ! (agg ! (and_then ! (lit ! tt) (and_then ! (get ! refl) (no_more !)))) refl (tt, (record { fits = lit< tt }, (tt, tt))) $
+    use0 𝓛 (‵ ((Handed E Z).own_val (Err (record {})) (refused_val ∷ []))) (refused E Z 𝓛) $
+    returns_within ! (W.post y) refl (look_at ! 0 refl) $ free_all ! refl $ keep ! (0 ∷ 1 ∷ 2 ∷ []) $ ends (Err (record {})) refused_val tt))))))
