@@ -2,6 +2,7 @@ pub mod Blocks
 pub mod Plans
 pub mod Edits
 pub mod Ends
+pub mod Followed
 pub mod Links
 pub mod Looks
 pub mod Lists

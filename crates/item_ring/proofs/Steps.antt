@@ -12,7 +12,7 @@ pub use base.Fraction.{full_share}
 pub use mir.Syntax.{Fn, Body, named, w64, ty_unit, ty_array}
 pub use mir.MapTy.{inst_fn}
 pub use mir.Val.{Val, vptr, vint, vunit, vstruct, vcons, vnil, has_ty, WT}
-pub use base.Logic.{SProp, ent, emp, never, id⊢}
+pub use base.Logic.{SProp, ent, sep, emp, never, id⊢}
 pub use base.Fml.{Lft, GName, Share, Incl-trans, ftrue, fat, froom, flft, fobs, fbor}
 pub use prog.Memory.{Memory, align, capped}
 pub use prog.Capped.{capped_fits}
@@ -32,29 +32,29 @@ pub use types.Run.{init, stop, fld, lit, unit_lit, of_opd, bin, size_lit, size_w
 pub use types.ByLocal.{alloc_all, pass_all, free_all, look_at, get, get_in, get_tag, through, is, sets, sets_last, lands_as, lands_last, env, take_at, give_at}
 pub use types.SemTy.{Body as Borrowed}
 pub use denote.Exit.{yes, no}
-pub use denote.RattleType.{RattleType, owns}
+pub use denote.RattleType.{RattleType, flat, owns}
 pub use denote.Laws.{Is}
 pub use denote.Memory.{mem, hidden_shr}
 pub use denote.Param.{layout}
 pub use denote.Param.Laws.{param_laws}
 pub use denote.RawPtr.{Ptr, block_ptr, ptr_val, in_a_block, ◌+ₚ◌}
 pub use denote.Plain.{uint_vals, uint_Tells}
-pub use denote.Ref.{Bor, ShrRef, MutBor, MutRef, shr_vals, shr_Tells}
+pub use denote.Ref.{Bor, ShrRef, MutBor, MutRef, shr_vals, shr_Tells, mut_vals, mut_Tells}
 pub use denote.Builtin.{RefOf, RefMutOf, usize, unit}
-pub use denote.Signature.{plain}
+pub use denote.Signature.{plain, types_at}
 pub use denote.Opens.{hide, unhide}
 pub use denote.Steps.{heard, nothing, owned, opens, closes}
 pub use denote.Struct.Struct.{Struct, Struct-Makes}
 pub use denote.Struct.Tuple.{Tuple}
 pub use denote.Triple.Call.{calls_at, calls_at_last}
 pub use denote.Triple.Carry.{spared}
-pub use denote.Triple.Clauses.{Clauses, Ended, closing}
-pub use denote.Triple.Entry.{on_entry}
+pub use denote.Triple.Clauses.{Lasts, Clauses, Ended, closing}
+pub use denote.Triple.Entry.{Vals, on_entry}
 pub use denote.Triple.Spec.{Meets, triple_of}
 pub use denote.Triple.Statement.{Triple}
 pub use denote.Triple.Table.{entered, framed, run_framed}
-pub use denote.Triple.Walked.{says, needs, Stays, stay_dropped, stay_ref, walk_of, ends_at, Goes-dropped, Goes-ref, walk_Meets}
-pub use Rattle.std.proofs.raw_atomic.Walks.{proved}
+pub use denote.Triple.Walked.{says, needs, Stays, stay_dropped, stay_ref, has_of, walk_of, ends_at, Goes-dropped, Goes-ref, walk_Meets}
+pub use Rattle.std.proofs.raw_atomic.Walks.{proved, proved_at, leaves}
 pub use Rattle.std.specs.Prelude.{Some, None, IfOk, Ok, Err}
 pub use Rattle.std.specs.Vec.Ownership.{FitsInBlock}
 pub use Rattle.core.proofs.alloc.Calls.{Al, second, token, Answer-typed, takes_key, gives_key, Takes, Gives, at_takes, at_gives, Answered, Takes-goes, Takes-gives, Gives-goes, Gives-Gives, answers}
@@ -66,6 +66,7 @@ pub use Rattle.std_alloc.proofs.RcSteps.{Good, first_Good, word, word-Good}
 pub use Rattle.std_alloc.proofs.ResultValues.{ok_of, err_of}
 pub use Rattle.std_alloc.proofs.VecSteps.Shapes.{after, head, arm_body}
 pub use Rattle.item_ring.specs.Memory.{IsFilled, place, places, place_lent, cells_own, cells_lent, deed_owns}
-pub use Rattle.item_ring.proofs.Ends.{Spent, all_go, returned, then_on}
-pub use Rattle.item_ring.proofs.Rooms.{De, Three, Handed, three_val, handed, handed_out, refused, refused_val, handed_val, handed_in, OfOne, Asking, asks, answered, Giving, gives, gave}
+pub use Rattle.item_ring.proofs.Followed.{leads, looks_into, one_out, one_in, filled}
+pub use Rattle.item_ring.proofs.Ends.{spent, Spent, all_go, nothing_left, returned, then_on}
+pub use Rattle.item_ring.proofs.Rooms.{De, Three, Handed, three_val, handed, handed_out, refused, refused_val, handed_val, handed_in, OfOne, Asking, asks, answered, Giving, gives, gave, link_made as link_own}
 pub use Rattle.item_ring.proofs.Blocks.{Ln, Cr, Mark, size, Place, mark, mark_had, mark_made, link_had, link_made, triple_val, triple_made, tells, filled_within, value_in, blanked, Others, place_out, place_in, place_seen, of_room, to_room}

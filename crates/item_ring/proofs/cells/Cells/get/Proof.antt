@@ -1,84 +1,44 @@
--- `get` follows a link to a value that the places lend. Assumes `Logic`.
-use Rattle.item_ring.proofs.Steps.{◌≡◌, refl, sym, ap, subst, ◌∙◌, ℕ, ◌+◌, ◌*◌, ◌<◌, ◌^◌, add_comm, List, [], ◌∷◌, ◌++◌, get_or, Ura, full_share, Fn, named, w64, inst_fn, Val, vptr, vint, SProp, ent, never, id⊢, Lft, Share, ftrue, fat, flft, Env, Calls, Loops, WpFn, Tables, Logic, fact, tables_of, tables, WpFn-mono, Item, ⋆, ‵, ◌⊛◌, at_ret, ◌$◌, ◌∵◌, !, qed, by, move, keep, drop, use1, split, join, rewrite, fsplit, fjoin, feq_i, feq_l, flt_l, suffices, frame, done, whole, sub, stop, fld, of_opd, addr, first, blocks, exec, returns, enter, alloc_all, pass_all, free_all, look_at, get, get_in, through, sets, sets_last, env, take_at, give_at, yes, no, owns, hidden_shr, layout, Ptr, block_ptr, in_a_block, ◌+ₚ◌, Bor, ShrRef, RefOf, usize, plain, hide, unhide, nothing, spared, Clauses, Ended, closing, on_entry, Meets, triple_of, entered, run_framed, says, needs, Stays, stay_dropped, walk_of, ends_at, Goes-dropped, walk_Meets, Some, None, El, R, el_x, word, word-Good, after, IsFilled, place_lent, cells_lent, Ln, Cr, size, Place, link_had, filled_within, place_seen}
+-- `get` follows the link, and lends what stands there for as long as the owner itself is lent: a `&` to the owner has a `&` to each value. Assumes `Logic`.
+use Rattle.item_ring.proofs.Steps.{◌≡◌, refl, ap, sym, ◌∙◌, ℕ, ◌+◌, ◌*◌, ◌<◌, ◌^◌, arith, List, [], ◌∷◌, length, get_or, w64, Val, vint, vptr, emp, fact_i, flft, fact, ◌⊑◌, tables, toks, ‵, raw, ◌⊛◌, at_ret, ◌$◌, ◌∵◌, !, qed, by, move, keep, drop, use0, use1, split, fsplit, fsplit3, fjoin, feq_i, rewrite, whole, sub, stop, fld, of_opd, addr, through, first, blocks, exec, returns, enter, alloc_all, pass_all, free_all, look_at, get, get_in, is, sets, sets_last, env, heard, hide, proved, shr_vals, shr_Tells, uint_vals, uint_Tells, named, owns, ShrRef, usize, walk_of, None, El, R, Place, IsFilled, inst_fn, block_ptr, ptr_val, ◌+ₚ◌, after, word-Good, size, Ln, Cr, Spent, all_go, returned, leads, looks_into, place_lent, place_seen, filled_within}
 use Rattle.core.proofs.mem.Param.{args}
-use Rattle.item_ring.specs.contracts.cells.Cells.get.Key.{name as #self}
-use Rattle.item_ring.proofs.cells.Cells.get.Statement as stated
+use Rattle.item_ring.specs.contracts.cells.Cells.get as contract
+use Rattle.item_ring.specs.contracts.cells.Cells.get.Key.{name}
+use Rattle.item_ring.proofs.cells.Cells.get.Statement.{statement}
 use Rattle.item_ring.proofs.cells.Cells.get.Code as code
+use Rattle.item_ring.proofs.cells.Link.TheLaws as link
 
-module _ (E : El) where
-  abbrev function : Fn
-  function = inst_fn (args E) code.function
-
-  abbrev ended : Ended
-  ended = record { signature = record { lifetimes = 1; outlives = []; params = RefOf (0 ∷ []) tt (plain (λ _. Cr E)) (λ _. tt) ∷ plain (λ _. Ln) ∷ plain (λ _. usize) ∷ []; result = RefOf (0 ∷ []) tt (plain (λ _. R E)) (λ _. tt) }; kept = (yes, (no, (no, tt))) }
-
-  abbrev stayed : Stays ended.signature.params ended.kept
-  stayed = (stay_dropped (RefOf (0 ∷ []) tt (plain (λ _. Cr E)) (λ _. tt)) yes, (stay_dropped (plain (λ _. Ln)) no, (stay_dropped (plain (λ _. usize)) no, tt)))
-
-  abbrev Asks : (Cr E).Denot → Ln.Denot → ℕ → Type 0
-  Asks d link index = (link.at ≡ d.at +ₚ (index * size E)) × IsFilled d.slots index
-
-  abbrev Promises : (Cr E).Denot → ℕ → Bor (el_x E) → Type 0
-  Promises d index r = get_or d.slots index None ≡ Some r.now
-
-  abbrev spec : {M : Type 1} {𝓤 : Ura M} (𝓛 : Logic 𝓤) → Clauses 𝓤 ended
-  spec {𝓤 = 𝓤} 𝓛 κs a = record { ghost = Unit {0}; requires = λ _. fact 𝓤 (Asks a.0.now a.1.0 a.1.1.0); ensures = λ _ r w. fact 𝓤 (Promises a.0.now a.1.1.0 r) }
-
-module _ (E : El) {M : Type 1} {𝓤 : Ura M} (𝓛 : Logic 𝓤) (C : Calls 𝓤 𝓛.H) (Λ : Loops 𝓤 𝓛.H) (κ : Lft) (q : Share) (rb ro : ℕ) (d : (Cr E).Denot) (link : Ln.Denot) (index : ℕ) (us0 us1 us2 : List Val) where
-  open 𝓛 use {H}
-
-  abbrev self : Bor (Cr E).Denot
-  self = record { ref_ptr = (rb, ro); now = d }
-
-  abbrev bound : (walk_of 𝓛 (ended E) (stayed E) (spec E 𝓛)).Ghost
-  bound = (((κ, tt), (q, tt), tt, (self, (link, (index, tt))), (us0, (us1, (us2, tt)))), tt)
-
-  abbrev Post : Val → SProp 𝓤
-  Post = (walk_of 𝓛 (ended E) (stayed E) (spec E 𝓛)).post bound
-
-  exits : (r : (ShrRef (named 0) κ (R E)).Denot) (v : Val) → Promises E d index r → ent 𝓤 (⋆ 𝓛 (‵ (flft κ q) ∷ ‵ ((ShrRef (named 0) κ (R E)).own_val r (v ∷ [])) ∷ [])) (Post v)
-  exits r v given_back =
-      qed 𝓛 (‵ (flft κ q) ∷ ‵ ((ShrRef (named 0) κ (R E)).own_val r (v ∷ [])) ∷ []) ∵
-      suffices ! _ (ends_at 𝓛 (ended E) (stayed E) (spec E 𝓛) bound v r (tt, (tt, (tt, tt))) (tt, (tt, (tt, tt)))) $ says ! given_back $
-      nothing ! $ move ! (1 ∷ 0 ∷ []) $ join ! $ frame ! $ nothing ! $ nothing ! $ fjoin ! $ nothing ! $ fjoin ! $ nothing ! $ fjoin ! $ done !
-
-  abbrev Had : List (Item 𝓤)
-  Had = ‵ (hidden_shr (Cr E) κ d rb ro) ∷ ‵ (flft κ q) ∷ []
-
-  walk : Asks E d link index → index < 2 ^ 64 → ent 𝓤 (⋆ 𝓛 Had) (WpFn 𝓤 H C Λ (function E) (vptr rb ro ∷ word link.at ∷ vint w64 index ∷ []) Post)
-  walk asked fits_index =
-      let x = asked.1.0 in let within = filled_within d.slots index x asked.1.1 in let s = size E in
-      qed 𝓛 Had ∵ enter ! C Λ (function E) (vptr rb ro ∷ word link.at ∷ vint w64 index ∷ []) _ $ alloc_all ! (λ l. pass_all ! refl ((tt, tt), (word-Good [] link.at, ((tt, record { fits = fits_index }), tt))) $
-      let En : Env 𝓤 H = env (function E).locals l in
-      unhide ! $ fsplit ! $ drop ! $ in_a_block ! d.at (λ p. cells_lent (R E) p d.slots κ) (id⊢ 𝓤 (never 𝓤)) (λ b o e. fsplit ! $ flt_l ! (λ small.
-      let there : link.at ≡ block_ptr b (index * s + o) = asked.0 ∙ ap (λ p. p +ₚ (index * s)) e ∙ ap (block_ptr b) (add_comm o (index * s)) in
-      take_at ! 2 $ rewrite ! 0 (λ (p : Ptr). ‵ (fat full_share (layout Ln) (l 2) 0 (word p))) there refl $ give_at ! 2 $ first ! $ blocks ! $
-      sets ! (of_opd ! (get_in ! (fld ! refl (stop !)) (sub ! 0 refl (whole !)))) refl (tt, tt) $
-      use1 𝓛 (‵ (place_lent (R E) b (index * s + o) (get_or d.slots index None) κ)) (place_seen E 𝓛 b κ o d.slots index within) $
-      rewrite ! 0 (λ (c : Place E). ‵ (place_lent (R E) b (index * s + o) c κ)) asked.1.1 refl $ hide ! $
-      sets_last ! (addr ! (through ! refl (stop !))) refl (tt, tt) $ exec ! C Λ En (after 1 (function E).body) (at_ret En Post) $ sets ! (of_opd ! (get ! refl)) refl (tt, tt) $
-      feq_i ! (List Val) (vptr b (index * s + o) ∷ []) (vptr b (index * s + o) ∷ []) refl $ fjoin ! $
-      returns ! (look_at ! 0 refl) $ free_all ! refl $ keep ! (1 ∷ 0 ∷ []) $ by ! (exits (record { ref_ptr = (b, index * s + o); now = x }) (vptr b (index * s + o)) asked.1.1))))
-
-  entry : Asks E d link index → ent 𝓤 (on_entry 𝓛 (ended E).signature (κ, tt) (q, tt) (self, (link, (index, tt))) (us0, (us1, (us2, tt)))) (WpFn 𝓤 H C Λ (function E) (us0 ++ (us1 ++ (us2 ++ []))) Post)
-  entry asked =
-      qed 𝓛 ((‵ (flft κ q) ⊛ ‵ ftrue) ∷ ‵ (owns (ShrRef (named 0) κ (Cr E) ∷ Ln ∷ usize ∷ []) (self, (link, (index, tt))) (us0, (us1, (us2, tt)))) ∷ []) ∵
-      split ! $ move ! (2 ∷ []) $ fsplit ! $ fsplit ! $ feq_l ! (λ e0. move ! (1 ∷ []) $ fsplit ! $ link_had ! link.at us1 (λ e1.
-      fsplit ! $ fsplit ! $ feq_l ! (λ e2. flt_l ! (λ fits_index. keep ! (1 ∷ 2 ∷ []) $
-      by ! (subst (λ (ws : List Val × List Val × List Val). ent 𝓤 (⋆ 𝓛 Had) (WpFn 𝓤 H C Λ (function E) (ws.0 ++ (ws.1 ++ (ws.2 ++ []))) Post)) (λ j. (sym e0 j, sym e1 j, sym e2 j)) (walk asked fits_index))))))
-
-meets : (E : El) {M : Type 1} {𝓤 : Ura M} (𝓛 : Logic 𝓤) (𝓣 : Tables 𝓤 𝓛.H)
-    → Meets 𝓛 (ended E).signature (WpFn 𝓤 𝓛.H 𝓣.C 𝓣.Λ (function E)) (closing 𝓛 (ended E) (spec E 𝓛))
-meets E {𝓤 = 𝓤} 𝓛 𝓣 =
-    walk_Meets 𝓛 (ended E) (stayed E) (Goes-dropped 𝓛 1 (RefOf (0 ∷ []) tt (plain (λ _. Cr E)) (λ _. tt)) yes (λ κs x f. refl), (Goes-dropped 𝓛 1 (plain (λ _. Ln)) no (λ κs x f. refl), (Goes-dropped 𝓛 1 (plain (λ _. usize)) no (λ κs x f. refl), tt))) (spec E 𝓛) (WpFn 𝓤 𝓛.H 𝓣.C 𝓣.Λ (function E)) (WpFn-mono 𝓤 𝓛.H 𝓛.laws 𝓣 (function E))
-    (λ z. let a = z.0.3 in let us = z.0.4 in needs 𝓤 (Asks E a.0.now a.1.0 a.1.1.0) _ (entry E 𝓛 𝓣.C 𝓣.Λ z.0.0.0 z.0.1.0 a.0.ref_ptr.0 a.0.ref_ptr.1 a.0.now a.1.0 a.1.1.0 us.0 us.1.0 us.1.1.0))
-
-pub get_spec : {M : Type 1} → stated.statement M
-unfolding tables_of
-get_spec 𝓤 𝓛 𝓜 𝓡 wired X LX y =
+pub get_spec : {M : Type 1} → statement M
+get_spec 𝓤 𝓛 𝓜 𝓡 wired X LX =
     let E : El = record { row = X; laws = LX } in
-    let 𝓣 : Tables 𝓤 𝓛.H = tables_of 𝓤 𝓛.H 𝓜 (tables 𝓤 𝓛.H 𝓜 𝓡 𝓡.env) in
-    let k = #self (args E) in
-    spared 𝓛 (ended E).signature (𝓡.run (𝓡.env k)) (run_framed 𝓤 𝓛.H 𝓜 𝓡 (𝓡.env k)) 1 (X.lives, tt) (closing 𝓛 (ended E) (spec E 𝓛))
-    (entered 𝓤 𝓛.H (triple_of 𝓛 (ended E).signature (closing 𝓛 (ended E) (spec E 𝓛))) 𝓣.C 𝓣.Λ k (function E) (code.unfolded 𝓤 𝓛.H 𝓜 𝓡 wired (X, tt)) (meets E 𝓛 𝓣))
-    ((y.0.0, y.0.1, tt, y.0.3, y.0.4), y.1)
+    let T = contract.ended X in
+    let c = contract.clauses X 𝓛 𝓜.mem 𝓡.returns in
+    let 𝓣 = tables 𝓤 𝓛.H 𝓜 𝓡 𝓡.env in
+    let function = inst_fn (args E) code.function in
+    proved 𝓛 T (Spent 𝓛 T c) c 𝓜 𝓡 (all_go 𝓛 2 T.signature.params T.kept ((λ κs x f. refl), ((λ κs x f. refl), ((λ κs x f. refl), tt))))
+    (name (args E)) function (code.unfolded 𝓤 𝓛.H 𝓜 𝓡 wired (X, tt))
+    (λ κs. (shr_vals, ((λ x. link.lowered x ∷ []), (uint_vals w64, tt)))) (λ κs. (shr_Tells (named 0) κs.0 (Cr E), (link.lowers.val_is, (uint_Tells w64, tt))))
+    (λ κs qs bounds a n are.
+    let κ = κs.0 in let d = a.0.now in let led = a.1.0 in let index = a.1.1.0 in
+    let W = walk_of 𝓛 T (Spent 𝓛 T c) c in
+    let y : W.Ghost = ((κs, qs, bounds, a, (shr_vals a.0, (link.lowered led ∷ [], (uint_vals w64 index, tt)))), n) in
+    let others = toks 𝓛 1 κs.1 qs.1 in
+    qed 𝓛 (((‵ (flft κ qs.0) ⊛ raw others) ⊛ ‵ (owns (ShrRef (named 0) κ (Cr E) ∷ Ln ∷ usize ∷ []) a y.0.4))
+    ∷ (raw (fact 𝓤 (κs.1.0 ⊑ X.lives)) ⊛ raw (fact 𝓤 ((led.at ≡ d.at +ₚ (index * size E)) × IsFilled d.slots index))) ∷ []) ∵
+    split ! $ split ! $ move ! (3 ∷ []) $ split ! $ drop ! $ heard ! _ (λ asked.
+    -- [the token; the other token; the parameters]
+    move ! (2 ∷ []) $ fsplit3 ! $ fsplit ! $ drop ! $ keep ! (0 ∷ 3 ∷ 4 ∷ []) $
+    let x = asked.1.0 in let stands = asked.1.1 in
+    enter ! _ _ _ _ _ $ alloc_all ! (λ l. pass_all ! refl ((tt, tt), (word-Good [] led.at, ((tt, record { fits = are.1.1.0.1 }), tt))) $
+    looks_into E ! κ d a.0.ref_ptr.0 a.0.ref_ptr.1 (λ b o begins small.
+    let at = index * size E + o in
+    use1 𝓛 (‵ (place_lent (R E) b at (get_or d.slots index None) κ)) (place_seen E 𝓛 b κ o d.slots index (filled_within d.slots index x stands)) $
+    rewrite ! 0 (λ (held : Place E). ‵ (place_lent (R E) b at held κ)) stands refl $ hide ! $
+    -- [the value, lent; the token; the other token]
+    first ! $ blocks ! $
+    sets ! (is ! (of_opd ! (get_in ! (fld ! refl (stop !)) (sub ! 0 refl (whole !)))) (ap ptr_val (leads d.at led.at b o (index * size E) begins asked.0))) refl (tt, tt) $
+    sets_last ! (addr ! (through ! refl (stop !))) refl (tt, tt) $
+    exec ! 𝓣.C 𝓣.Λ (env function.locals l) (after 1 function.body) (at_ret _ (W.post y)) $
+    sets ! (of_opd ! (get ! refl)) refl (tt, tt) $
+    feq_i ! (List Val) (vptr b at ∷ []) (vptr b at ∷ []) refl $ fjoin ! $
+    returns ! (look_at ! 0 refl) $ free_all ! refl $ keep ! (0 ∷ 1 ∷ 2 ∷ []) $
+    by ! (returned 𝓛 T c y (vptr b at) (record { ref_ptr = (b, at); now = x }) (tt, (tt, (tt, tt))) (fact_i 𝓤 _ (emp 𝓤) stands))))))
