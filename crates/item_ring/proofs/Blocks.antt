@@ -1,5 +1,4 @@
 -- Lemmas that the walks of `cells.rt` share. Assumes `Logic`.
---     link_had, link_made, mark_had, mark_made      what a `Link` and an owner that takes no space own of their machine values
 --     place_out, place_in, place_seen      one place is taken out of the row, put back, or seen
 --     blanked      the value of a place is forgotten
 --     of_room, to_room      room for an array is a row of places
@@ -56,58 +55,8 @@ module _ (E : El) where
   abbrev pub Place : Type 0
   Place = Option (el_x E)
 
-abbrev one_pointer : Shape
-one_pointer = record { name = []; args = []; types = []; fields = RawPtr ∷ [] }
-
-abbrev pub Word : RattleType
-Word = Struct one_pointer
-
 abbrev pub mark : Val
 mark = vstruct (vcons (vstruct vnil) vnil)
-
-pub mark_made : (E : El) {M : Type 1} {𝓤 : Ura M} (𝓛 : Logic 𝓤) → ent 𝓤 (emp 𝓤) (sem 𝓛 ((Mark E).own_val (tt, tt) (mark ∷ [])))
-mark_made E 𝓛 =
-    makes_shadow 𝓛 ((Mark E).own_val (tt, tt) (mark ∷ [])) (λ vss. (tt, ((λ uss. (tt, tt)), tt))) ((vstruct vnil ∷ [], tt), (refl, ((tt, (refl, tt)), tt)))
-
-module _ {M : Type 1} {𝓤 : Ura M} {𝓛 : Logic 𝓤} {K : Type 0} {Γ : List (Item 𝓤)} {G : Goal 𝓤 𝓛.H} where
-  pub link_had : K → (p : Ptr) (vs : List Val) → (vs ≡ word p ∷ [] → Seq K 𝓛 Γ G) → Seq K 𝓛 (‵ (Word.own_val (p, tt) vs) ∷ Γ) G
-  link_had t p vs k =
-      fpick t (λ vss. fsplit t $ feq_l t (λ outer. fsplit t $ feq_l t (λ inner. skip t $
-      k (subst (λ (ws : List Val). vs ≡ vstruct (of_list (ws ++ [])) ∷ []) inner outer))))
-
-  pub link_made : K → (p : Ptr) → Step K 𝓛 (‵ (Word.own_val (p, tt) (word p ∷ [])) ∷ Γ) G Γ G
-  link_made t p = step (λ s.
-      nothing t $ feq_i t (List Val) (ptr_val p ∷ []) (ptr_val p ∷ []) refl $ fjoin t $ feq_i t (List Val) (word p ∷ []) (word p ∷ []) refl $ fjoin t $
-      fpack t (Valss (RawPtr ∷ [])) (within one_pointer (p, tt) (word p ∷ [])) (ptr_val p ∷ [], tt) $ s)
-
-  pub mark_had : K → (E : El) (vs : List Val) → (vs ≡ mark ∷ [] → Seq K 𝓛 Γ G) → Seq K 𝓛 (‵ ((Mark E).own_val (tt, tt) vs) ∷ Γ) G
-  mark_had t E vs k =
-      fpick t (λ vss. fsplit t $ feq_l t (λ outer. fsplit t $ fpick t (λ uss. fsplit t $ feq_l t (λ inner. skip t $ skip t $
-      k (subst (λ (ws : List Val). vs ≡ vstruct (of_list (ws ++ [])) ∷ []) inner outer)))))
-
-abbrev pub triple_val : Val → Val → Val → Val
-triple_val u v w = vstruct (vcons u (vcons v (vcons w vnil)))
-
-pub triple_made : {M : Type 1} {𝓤 : Ura M} (𝓛 : Logic 𝓤) (R S T : RattleType) (x : R.Denot) (y : S.Denot) (z : T.Denot) (u v w : Val)
-    → ent 𝓤 (sep 𝓤 (sem 𝓛 (R.own_val x (u ∷ []))) (sep 𝓤 (sem 𝓛 (S.own_val y (v ∷ []))) (sem 𝓛 (T.own_val z (w ∷ []))))) (sem 𝓛 ((Tuple (R ∷ S ∷ T ∷ [])).own_val (x, y, z) (triple_val u v w ∷ [])))
-triple_made 𝓛 R S T x y z u v w =
-    qed 𝓛 (‵ (R.own_val x (u ∷ [])) ∷ ‵ (S.own_val y (v ∷ [])) ∷ ‵ (T.own_val z (w ∷ [])) ∷ []) ∵
-    nothing ! $ move ! (3 ∷ 0 ∷ []) $ fjoin ! $ move ! (2 ∷ 0 ∷ []) $ fjoin ! $ move ! (1 ∷ 0 ∷ []) $ fjoin ! $
-    feq_i ! (List Val) (triple_val u v w ∷ []) (triple_val u v w ∷ []) refl $ fjoin ! $
-    fpack ! (Valss (R ∷ S ∷ T ∷ [])) (within (Declared.shape (tuple_type (R ∷ S ∷ T ∷ []))) (x, (y, (z, tt))) (triple_val u v w ∷ [])) (u ∷ [], (v ∷ [], (w ∷ [], tt))) $ done !
-
-lone_value : (τ : Ty) (vs : List Val) → Typed (τ ∷ []) vs → (v : Val) × ((vs ≡ v ∷ []) × Good τ v)
-lone_value τ [] t = absurd t
-lone_value τ (v ∷ []) t = (v, (refl, t.0))
-lone_value τ (v ∷ w ∷ vs) t = absurd t.1
-
-module _ (Y : RattleType) (L : Laws Y) {M : Type 1} {𝓤 : Ura M} {𝓛 : Logic 𝓤} {K : Type 0} {Γ : List (Item 𝓤)} {G : Goal 𝓤 𝓛.H} where
-  -- what is owned of a value is one machine value, of its type
-  pub tells : K → (x : Y.Denot) (vs : List Val) → ((v : Val) → vs ≡ v ∷ [] → Good (layout Y) v → Seq K 𝓛 (‵ (Y.own_val x (v ∷ [])) ∷ Γ) G) → Seq K 𝓛 (‵ (Y.own_val x vs) ∷ Γ) G
-  tells t x vs k =
-      peeks t (param 0 Y) (Is (param 0 Y)) (shows 𝓛 (param 0 Y)) x vs (λ is.
-      let one = lone_value (layout Y) vs (((param_laws 0 Y L).lawful 𝓛).typed x vs is) in
-      rewrite t 0 (λ (us : List Val). ‵ (Y.own_val x us)) one.1.0 refl $ k one.0 one.1.0 one.1.1)
 
 pub filled_within : {X : Type 0} (cs : List (Option X)) (i : ℕ) (x : X) → get_or cs i None ≡ Some x → i < length cs
 filled_within [] i x e = cc
@@ -140,38 +89,38 @@ module _ (E : El) {M : Type 1} {𝓤 : Ura M} (𝓛 : Logic 𝓤) (b : ℕ) wher
       use1 𝓛 (some (λ (v : Val). given (Good (elτ E) v) (‵ (fat full_share (elτ E) b o v) ⊛ ‵ (E.row.own_val x (v ∷ []))))) (value_out x o) $
       pick ! (λ v. learn ! (λ good. split ! $ keep ! (0 ∷ []) $ by ! (𝓛.laws.at_room (elτ E) b o v)))
 
-  cut : (xs ys : List (Place E)) (o at : ℕ) → at ≡ length xs * s + o → ent 𝓤 (sem 𝓛 (Row o (xs ++ ys))) (sep 𝓤 (sem 𝓛 (Row o xs)) (sem 𝓛 (Row at ys)))
-  cut [] ys o at e = qed 𝓛 (‵ (Row o ys) ∷ []) ∵ rewrite ! 0 (λ (k : ℕ). ‵ (Row k ys)) {x = at} (omega (arith, zero-mul s)) refl $ nothing ! $ done !
-  cut (x ∷ xs) ys o at e = let more : at ≡ suc (length xs) * s + o = e in qed 𝓛 (‵ (Row o (x ∷ xs ++ ys)) ∷ []) ∵ fsplit ! $ move ! (1 ∷ []) $
-      use1 𝓛 (‵ (Row (o + s) xs) ⊛ ‵ (Row at ys)) (cut xs ys (o + s) at (omega (arith, suc-mul (length xs) s))) $ split ! $ move ! (2 ∷ 0 ∷ []) $ fjoin ! $ done !
+  -- one place further on
+  further : (i o : ℕ) → i * s + (o + s) ≡ suc i * s + o
+  further i o = omega (arith, suc-mul i s)
 
-  glue : (xs ys : List (Place E)) (o at : ℕ) → at ≡ length xs * s + o → ent 𝓤 (sep 𝓤 (sem 𝓛 (Row o xs)) (sem 𝓛 (Row at ys))) (sem 𝓛 (Row o (xs ++ ys)))
-  glue [] ys o at e = qed 𝓛 (‵ ftrue ∷ ‵ (Row at ys) ∷ []) ∵ skip ! $ rewrite ! 0 (λ (k : ℕ). ‵ (Row k ys)) {x = o} (omega (arith, zero-mul s)) refl $ done !
-  glue (x ∷ xs) ys o at e = let more : at ≡ suc (length xs) * s + o = e in qed 𝓛 (‵ (Row o (x ∷ xs)) ∷ ‵ (Row at ys) ∷ []) ∵ fsplit ! $ move ! (1 ∷ 2 ∷ []) $
-      use2 𝓛 (‵ (Row (o + s) (xs ++ ys))) (glue xs ys (o + s) at (omega (arith, suc-mul (length xs) s))) $ move ! (1 ∷ 0 ∷ []) $ fjoin ! $ done !
+  at_first : (o : ℕ) → o ≡ zero * s + o
+  at_first o = omega (arith, zero-mul s)
 
-  module _ (o : ℕ) (cs : List (Place E)) (i : ℕ) where
-    -- the places but for the i-th
-    abbrev pub Others : Fml
-    Others = fsep (Row o (take i cs)) (Row (i * s + o + s) (drop (suc i) cs))
+  -- the places but for the i-th
+  abbrev pub Others : ℕ → List (Place E) → ℕ → Fml
+  Others o [] i = ftrue
+  Others o (c ∷ cs) zero = Row (o + s) cs
+  Others o (c ∷ cs) (suc i) = fsep (place (R E) b o c) (Others (o + s) cs i)
 
-    before : i ≤ length cs → i * s + o ≡ length (take i cs) * s + o
-    before le = let long : i ≡ length (take i cs) = omega (arith, length-take i cs) in ap (λ k. k * s + o) long
+  abbrev At : List (Place E) → ℕ → ℕ → Fml
+  At cs i k = place (R E) b k (get_or cs i None)
 
-    pub place_out : i < length cs → ent 𝓤 (sem 𝓛 (Row o cs)) (sep 𝓤 (sem 𝓛 (place (R E) b (i * s + o) (get_or cs i None))) (sem 𝓛 Others))
-    place_out lt =
-        let rest = get_or cs i None ∷ drop (suc i) cs in
-        qed 𝓛 (‵ (Row o cs) ∷ []) ∵
-        rewrite ! 0 (λ (l : List (Place E)). ‵ (Row o l)) (sym (take-append-drop i cs) ∙ ap (λ l. take i cs ++ l) (drop-cons cs i None lt)) refl $
-        use1 𝓛 (‵ (Row o (take i cs)) ⊛ ‵ (Row (i * s + o) rest)) (cut (take i cs) rest o (i * s + o) (before (omega arith))) $
-        split ! $ move ! (1 ∷ []) $ fsplit ! $ move ! (2 ∷ 1 ∷ []) $ fjoin ! $ move ! (1 ∷ []) $ done !
+  pub place_out : (o : ℕ) (cs : List (Place E)) (i : ℕ) → i < length cs → ent 𝓤 (sem 𝓛 (Row o cs)) (sep 𝓤 (sem 𝓛 (At cs i (i * s + o))) (sem 𝓛 (Others o cs i)))
+  place_out o [] i lt = absurd (omega arith)
+  place_out o (c ∷ cs) zero lt = qed 𝓛 (‵ (Row o (c ∷ cs)) ∷ []) ∵ fsplit ! $ rewrite ! 0 (λ (k : ℕ). ‵ (place (R E) b k c)) (at_first o) refl $ done !
+  place_out o (c ∷ cs) (suc i) lt =
+      qed 𝓛 (‵ (Row o (c ∷ cs)) ∷ []) ∵ fsplit ! $ move ! (1 ∷ []) $
+      use1 𝓛 (‵ (At cs i (i * s + (o + s))) ⊛ ‵ (Others (o + s) cs i)) (place_out (o + s) cs i (omega arith)) $ split ! $
+      rewrite ! 0 (λ (k : ℕ). ‵ (At cs i k)) (further i o) refl $ frame ! $ move ! (1 ∷ 0 ∷ []) $ fjoin ! $ done !
 
-    pub place_in : i < length cs → (c : Place E) → ent 𝓤 (sep 𝓤 (sem 𝓛 (place (R E) b (i * s + o) c)) (sem 𝓛 Others)) (sem 𝓛 (Row o (set cs i c)))
-    place_in lt c =
-        let rest = c ∷ drop (suc i) cs in
-        qed 𝓛 (‵ (place (R E) b (i * s + o) c) ∷ ‵ Others ∷ []) ∵ move ! (1 ∷ []) $ fsplit ! $ move ! (2 ∷ 1 ∷ []) $ fjoin ! $ move ! (1 ∷ 0 ∷ []) $
-        use2 𝓛 (‵ (Row o (take i cs ++ rest))) (glue (take i cs) rest o (i * s + o) (before (omega arith))) $
-        rewrite ! 0 (λ (l : List (Place E)). ‵ (Row o l)) (sym (set_split cs i c lt)) refl $ done !
+  pub place_in : (o : ℕ) (cs : List (Place E)) (i : ℕ) → i < length cs → (x : Place E) → ent 𝓤 (sep 𝓤 (sem 𝓛 (place (R E) b (i * s + o) x)) (sem 𝓛 (Others o cs i))) (sem 𝓛 (Row o (set cs i x)))
+  place_in o [] i lt x = absurd (omega arith)
+  place_in o (c ∷ cs) zero lt x =
+      qed 𝓛 (‵ (place (R E) b (zero * s + o) x) ∷ ‵ (Row (o + s) cs) ∷ []) ∵ rewrite ! 0 (λ (k : ℕ). ‵ (place (R E) b k x)) (sym (at_first o)) refl $ fjoin ! $ done !
+  place_in o (c ∷ cs) (suc i) lt x =
+      qed 𝓛 (‵ (place (R E) b (suc i * s + o) x) ∷ ‵ (Others o (c ∷ cs) (suc i)) ∷ []) ∵
+      rewrite ! 0 (λ (k : ℕ). ‵ (place (R E) b k x)) (sym (further i o)) refl $ move ! (1 ∷ []) $ fsplit ! $ move ! (2 ∷ 1 ∷ []) $
+      use2 𝓛 (‵ (Row (o + s) (set cs i x))) (place_in (o + s) cs i (omega arith) x) $ move ! (1 ∷ []) $ fjoin ! $ done !
 
   pub of_room : (n o : ℕ) → ent 𝓤 (H.room (ty_array (elτ E) n) b o) (sem 𝓛 (Row o (replicate n None)))
   of_room zero o = qed 𝓛 (‵ (froom (ty_array (elτ E) 0) b o) ∷ []) ∵ keep ! [] $ done !
@@ -189,12 +138,10 @@ module _ (E : El) {M : Type 1} {𝓤 : Ura M} (𝓛 : Logic 𝓤) (b : ℕ) wher
     abbrev Seen : ℕ → List (Place E) → Fml
     Seen o cs = places_lent (R E) b o cs κ
 
-    seen_from : (cs : List (Place E)) (i o at : ℕ) → i ≤ length cs → at ≡ i * s + o → ent 𝓤 (sem 𝓛 (Seen o cs)) (sem 𝓛 (Seen at (drop i cs)))
-    seen_from cs zero o at le e = let same : o ≡ at = omega (arith, zero-mul s) in subst (λ k. ent 𝓤 (sem 𝓛 (Seen o cs)) (sem 𝓛 (Seen k cs))) same (id⊢ 𝓤 _)
-    seen_from [] (suc i) o at le e = absurd (omega arith)
-    seen_from (c ∷ cs) (suc i) o at le e =
-        via 𝓤 (sem 𝓛 (Seen (o + s) cs)) (snd∗ 𝓤 (sem 𝓛 (place_lent (R E) b o c κ)) (sem 𝓛 (Seen (o + s) cs))) (seen_from cs i (o + s) at (omega arith) (omega (arith, suc-mul i s)))
-
     pub place_seen : (o : ℕ) (cs : List (Place E)) (i : ℕ) → i < length cs → ent 𝓤 (sem 𝓛 (Seen o cs)) (sem 𝓛 (place_lent (R E) b (i * s + o) (get_or cs i None) κ))
-    place_seen o cs i lt = qed 𝓛 (‵ (Seen o cs) ∷ []) ∵ use1 𝓛 (‵ (Seen (i * s + o) (drop i cs))) (seen_from cs i o (i * s + o) (omega arith) refl) $
-        rewrite ! 0 (λ (l : List (Place E)). ‵ (Seen (i * s + o) l)) (drop-cons cs i None lt) refl $ fsplit ! $ keep ! (0 ∷ []) $ done !
+    place_seen o [] i lt = absurd (omega arith)
+    place_seen o (c ∷ cs) zero lt = qed 𝓛 (‵ (Seen o (c ∷ cs)) ∷ []) ∵ fsplit ! $ rewrite ! 0 (λ (k : ℕ). ‵ (place_lent (R E) b k c κ)) (at_first o) refl $ keep ! (0 ∷ []) $ done !
+    place_seen o (c ∷ cs) (suc i) lt =
+        qed 𝓛 (‵ (Seen o (c ∷ cs)) ∷ []) ∵ fsplit ! $ keep ! (1 ∷ []) $
+        use1 𝓛 (‵ (place_lent (R E) b (i * s + (o + s)) (get_or cs i None) κ)) (place_seen (o + s) cs i (omega arith)) $
+        rewrite ! 0 (λ (k : ℕ). ‵ (place_lent (R E) b k (get_or cs i None) κ)) (further i o) refl $ done !

@@ -68,5 +68,5 @@ pub use Rattle.std_alloc.proofs.VecSteps.Shapes.{after, head, arm_body}
 pub use Rattle.item_ring.specs.Memory.{IsFilled, place, places, place_lent, cells_own, cells_lent, deed_owns}
 pub use Rattle.item_ring.proofs.Followed.{leads, looks_into, one_out, one_in, filled}
 pub use Rattle.item_ring.proofs.Ends.{spent, Spent, all_go, nothing_left, returned, then_on}
-pub use Rattle.item_ring.proofs.Rooms.{De, Three, Handed, three_val, handed, handed_out, refused, refused_val, handed_val, handed_in, OfOne, Asking, asks, answered, Giving, gives, gave, link_made as link_own}
-pub use Rattle.item_ring.proofs.Blocks.{Ln, Cr, Mark, size, Place, mark, mark_had, mark_made, link_had, link_made, triple_val, triple_made, tells, filled_within, value_in, blanked, Others, place_out, place_in, place_seen, of_room, to_room}
+pub use Rattle.item_ring.proofs.Rooms.{De, Three, Handed, three_val, handed, handed_out, refused, refused_val, handed_val, handed_in, OfOne, Asking, asks, answered, Giving, gives, gave, link_made}
+pub use Rattle.item_ring.proofs.Blocks.{Ln, Cr, size, Place, mark, filled_within, place_seen}
