@@ -1,8 +1,12 @@
 pub mod Blocks
 pub mod Chains
+pub mod Ends
 pub mod Joins
+pub mod Opened
 pub mod Lending
 pub mod PoolSteps
+pub mod Rooms
 pub mod Rows
 pub mod Seen
+pub mod Steps
 pub mod Tables

@@ -1,6 +1,5 @@
 -- What the walks over a block's places share: how a row of places is opened at one of them, and closed again.
 -- Assumes `Logic`.
---     start_had, start_made, mark_had, mark_made      a value of one pointer, and one of no bytes
 --     place_out, place_in, place_seen      one place is taken out of its row, put back, or seen
 --     room_to_row, row_to_room      raw room for an array is a row of empty places
 use mathlib.Core.Path.{◌≡◌, refl, subst}
@@ -60,39 +59,6 @@ module _ (E : El) where
 abbrev pub mark : Val
 mark = vstruct (vcons (vstruct vnil) vnil)
 
-abbrev pointer_shape : Shape
-pointer_shape = record { name = []; args = []; types = []; fields = RawPtr ∷ [] }
-
-abbrev Pointer : RattleType
-Pointer = Struct pointer_shape
-
-pub mark_made : (E : El) {M : Type 1} {𝓤 : Ura M} (𝓛 : Logic 𝓤) → ent 𝓤 (emp 𝓤) (sem 𝓛 ((Mark E).own_val (tt, tt) (mark ∷ [])))
-mark_made E 𝓛 = makes_shadow 𝓛 ((Mark E).own_val (tt, tt) (mark ∷ [])) (λ _. (tt, ((λ _. (tt, tt)), tt))) ((vstruct vnil ∷ [], tt), (refl, ((tt, (refl, tt)), tt)))
-
-module _ {M : Type 1} {𝓤 : Ura M} {𝓛 : Logic 𝓤} {K : Type 0} {Γ : List (Item 𝓤)} {G : Goal 𝓤 𝓛.H} where
-  pub start_made : K → (p : Ptr) → Step K 𝓛 (‵ (Pointer.own_val (p, tt) (word p ∷ [])) ∷ Γ) G Γ G
-  start_made t p = step (λ rest.
-      nothing t $ feq_i t (List Val) (ptr_val p ∷ []) (ptr_val p ∷ []) refl $ fjoin t $ feq_i t (List Val) (word p ∷ []) (word p ∷ []) refl $ fjoin t $
-      fpack t (Valss (RawPtr ∷ [])) (within pointer_shape (p, tt) (word p ∷ [])) (ptr_val p ∷ [], tt) $ rest)
-
-  pub start_had : K → (p : Ptr) (vs : List Val) → (vs ≡ word p ∷ [] → Seq K 𝓛 Γ G) → Seq K 𝓛 (‵ (Pointer.own_val (p, tt) vs) ∷ Γ) G
-  start_had t p vs rest =
-      let wrapped = λ (ws : List Val). vs ≡ vstruct (of_list (ws ++ [])) ∷ [] in
-      fpick t (λ _. fsplit t $ feq_l t (λ whole. fsplit t $ feq_l t (λ field. drop t $ rest (subst wrapped field whole))))
-
-  pub mark_had : K → (E : El) (vs : List Val) → (vs ≡ mark ∷ [] → Seq K 𝓛 Γ G) → Seq K 𝓛 (‵ ((Mark E).own_val (tt, tt) vs) ∷ Γ) G
-  mark_had t E vs rest =
-      let wrapped = λ (ws : List Val). vs ≡ vstruct (of_list (ws ++ [])) ∷ [] in
-      fpick t (λ _. fsplit t $ feq_l t (λ whole. fsplit t $ fpick t (λ _. fsplit t $ feq_l t (λ field. drop t $ drop t $ rest (subst wrapped field whole)))))
-
-module _ {M : Type 1} {𝓤 : Ura M} {𝓛 : Logic 𝓤} {K : Type 0} {Γ : List (Item 𝓤)} where
-  -- two facts that are shown at once
-  pub says_two : K → {φ ψ : Type 0} {Q : SProp 𝓤} → φ → ψ → Step K 𝓛 Γ (prop Q) Γ (prop (sep 𝓤 Q (sep 𝓤 (fact 𝓤 φ) (fact 𝓤 ψ))))
-  says_two t {φ} {ψ} {Q} x y = step (λ s. record {
-    prf = via 𝓤 Q s.prf (qed 𝓛 (raw Q ∷ []) {P = sep 𝓤 Q (sep 𝓤 (fact 𝓤 φ) (fact 𝓤 ψ))} (
-        frame ! $ use0 𝓛 (raw (fact 𝓤 ψ)) (fact_i 𝓤 ψ (emp 𝓤) y) $ use0 𝓛 (raw (fact 𝓤 φ)) (fact_i 𝓤 φ (emp 𝓤) x) $ done !));
-  })
-
 -- A VALUE AND THE BYTES THAT IT LIES IN
 
 module _ (Y : RattleType) (L : Laws Y) {M : Type 1} {𝓤 : Ura M} (𝓛 : Logic 𝓤) where
@@ -112,30 +78,6 @@ module _ (Y : RattleType) (L : Laws Y) {M : Type 1} {𝓤 : Ura M} (𝓛 : Logic
 
   pub value_in : (x : Y.Denot) (b o : ℕ) (v : Val) → ent 𝓤 (Bytes x b o v) (sem 𝓛 (part_at Row full_share x b o))
   value_in x b o v = part_in 𝓛 Row refl full_share x b o v
-
-single : (τ : Ty) (vs : List Val) → Typed (τ ∷ []) vs → (v : Val) × ((vs ≡ v ∷ []) × Good τ v)
-single τ [] t = absurd t
-single τ (v ∷ []) t = (v, (refl, t.0))
-single τ (v ∷ _ ∷ _) t = absurd t.1
-
-module _ (Y : RattleType) (L : Laws Y) {M : Type 1} {𝓤 : Ura M} {𝓛 : Logic 𝓤} {K : Type 0} {Γ : List (Item 𝓤)} {G : Goal 𝓤 𝓛.H} where
-  -- a value that is passed is one machine value of its type
-  pub value_had : K → (x : Y.Denot) (vs : List Val) → ((v : Val) → vs ≡ v ∷ [] → Good (layout Y) v → Seq K 𝓛 (‵ (Y.own_val x (v ∷ [])) ∷ Γ) G) → Seq K 𝓛 (‵ (Y.own_val x vs) ∷ Γ) G
-  value_had t x vs rest =
-      peeks t (param 0 Y) (Is (param 0 Y)) (shows 𝓛 (param 0 Y)) x vs (λ is.
-      let one = single (layout Y) vs (((param_laws 0 Y L).lawful 𝓛).typed x vs is) in
-      rewrite t 0 (λ (us : List Val). ‵ (Y.own_val x us)) one.1.0 refl $ rest one.0 one.1.0 one.1.1)
-
-abbrev pub triple : Val → Val → Val → Val
-triple u v w = vstruct (vcons u (vcons v (vcons w vnil)))
-
-pub triple_made : {M : Type 1} {𝓤 : Ura M} (𝓛 : Logic 𝓤) (A B C : RattleType) (x : A.Denot) (y : B.Denot) (z : C.Denot) (u v w : Val)
-    → ent 𝓤 (sep 𝓤 (sem 𝓛 (A.own_val x (u ∷ []))) (sep 𝓤 (sem 𝓛 (B.own_val y (v ∷ []))) (sem 𝓛 (C.own_val z (w ∷ []))))) (sem 𝓛 ((Tuple (A ∷ B ∷ C ∷ [])).own_val (x, y, z) (triple u v w ∷ [])))
-triple_made 𝓛 A B C x y z u v w =
-    let types = A ∷ B ∷ C ∷ [] in
-    qed 𝓛 (‵ (A.own_val x (u ∷ [])) ∷ ‵ (B.own_val y (v ∷ [])) ∷ ‵ (C.own_val z (w ∷ [])) ∷ []) ∵ nothing ! $ move ! (3 ∷ 0 ∷ []) $ fjoin ! $ move ! (2 ∷ 0 ∷ []) $ fjoin ! $ move ! (1 ∷ 0 ∷ []) $ fjoin ! $
-    feq_i ! (List Val) (triple u v w ∷ []) (triple u v w ∷ []) refl $ fjoin ! $
-    fpack ! (Valss types) (within (Declared.shape (tuple_type types)) (x, (y, (z, tt))) (triple u v w ∷ [])) (u ∷ [], (v ∷ [], (w ∷ [], tt))) $ done !
 
 -- ONE PLACE AND THE OTHERS
 

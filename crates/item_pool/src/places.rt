@@ -66,19 +66,17 @@ pub(crate) fn allocate<T, A: Allocator>(
     requires { FitsInBlock T.row len }
     ensures { IfOk result (λ r. (r.1.at ≡ r.0.ptr) × (r.1.row ≡ replicate len None) × (r.2.at ≡ r.0.ptr) × (r.2.len ≡ len) × (r.2.alloc ≡ alloc.now)) }
 {
-    match alloc.allocate(len * size_of::<T>(), align_of::<T>()) {
-        Ok(block) => {
-            let start = Start {
-                ptr: block as *mut T,
-            };
-            Ok((
-                start,
-                Places { mark: PhantomData },
-                Deed { mark: PhantomData },
-            ))
-        }
-        Err(error) => Err(error),
-    }
+    let Ok(block) = alloc.allocate(len * size_of::<T>(), align_of::<T>()) else {
+        return Err(AllocError);
+    };
+    let start = Start {
+        ptr: block as *mut T,
+    };
+    Ok((
+        start,
+        Places { mark: PhantomData },
+        Deed { mark: PhantomData },
+    ))
 }
 
 /// Gives a block of empty places back.

@@ -1,196 +1,70 @@
--- `allocate` cuts a new block into empty places, and keeps the right to give it back. Assumes `Logic`.
-use mathlib.Core.Path.{◌≡◌, refl, sym, ap, subst}
-use mathlib.Core.Bool.{true, false}
-use Prim.Native.Nat.{ℕ, ◌*◌, ◌<◌, ◌^◌}
-use native.Mathlib.Omega.{arith}
-use mathlib.Core.List.{List, [], ◌∷◌, ◌++◌}
-use lib.Dec.{lit<}
-use lib.ListN.{length, replicate, length-replicate}
-use seplogic.Ra.Ura.{Ura}
-use mir.Syntax.{Fn, Body, named, w64, ty_array}
-use mir.MapTy.{inst_fn}
-use mir.Val.{Val, vptr, vint, vstruct, vcons, vnil}
-use base.Logic.{SProp, ent}
-use base.Fml.{Lft, Share, Incl-trans, ftrue, flft}
-use prog.Memory.{Memory, align, capped}
-use prog.Capped.{capped_fits}
-use prog.Routine.{Routine}
-use prog.Wp.{Env, Calls, Loops, Wp, WpFn, Tables, after_seq, at_return}
-use contract.Monad.{Fun, fact}
-use contract.BorrowLft.{◌⊑◌}
-use contract.Running.{tables, tables_of}
-use sound.WpLaws.{WpFn-mono, FmC, fm_of}
-use types.Logic.{Logic}
-use types.Kit.{Item, ⋆, ‵, raw, ◌⊛◌, Post as After, any_q, later, await, at_ret, ◌$◌, ◌∵◌, !, qed, by, move, keep, use0, use1, use2, use3, split, join, fsplit, fsplit3, fjoin, feq_l, flt_l, flt_i, suffices, frame, done}
-use types.Part.{whole, agg}
-use types.Match.{live, vrt, in_variant}
-use types.Run.{stop, fld, lit, of_opd, and_then, no_more, first, exec, returns, enter, bin, size_word, align_word, switches_on}
-use types.ByLocal.{alloc_all, pass_all, free_all, look_at, get, get_in, get_tag, sets, sets_last, lands_as, is, env}
-use denote.Exit.{yes}
-use denote.Laws.{Is}
-use denote.RattleType.{RattleType, owns}
-use denote.Memory.{hidden_shr}
-use denote.Param.{layout}
-use denote.RawPtr.{Ptr, block_ptr}
-use denote.Ref.{Bor, ShrRef}
-use denote.Builtin.{RefOf, usize}
-use denote.Signature.{plain}
-use denote.Steps.{nothing, owned}
-use denote.Struct.Struct.{Struct, Struct-Makes}
-use denote.Struct.Declared as Declared
-use denote.Struct.Tuple.{Tuple}
-use denote.Triple.Call.{calls_at}
-use denote.Triple.Clauses.{Clauses, Ended, closing}
-use denote.Triple.Entry.{on_entry}
-use denote.Triple.Spec.{Meets, triple_of}
-use denote.Triple.Statement.{Triple}
-use denote.Triple.Table.{entered}
-use denote.Triple.Walked.{says, needs, Stays, stay_dropped, walk_of, ends_at, Goes-dropped, walk_Meets}
-use Rattle.std.specs.Prelude.{IfOk, Ok, Err, None}
-use Rattle.std.specs.Vec.Ownership.{FitsInBlock}
-use Rattle.core.specs.contracts.result.Result as Outcome
-use Rattle.core.specs.contracts.alloc.AllocError as Refusal
-use Rattle.core.proofs.mem.Param.{El, R, elτ}
-use Rattle.core.proofs.alloc.Calls.{Al, second, Answer-typed, takes_key, Takes, at_takes, Answered, Takes-goes, Takes-gives, answers}
-use Rattle.core.proofs.slots.Leases.{uncapped, block_ty, block_size, block_align, args, P}
-use Rattle.std_alloc.proofs.RawLayout.{as_written}
-use Rattle.std_alloc.proofs.RcSteps.{Good, first_Good, word, word-Good}
-use Rattle.std_alloc.proofs.ResultValues.{ok_of, err_of}
-use Rattle.std_alloc.proofs.VecSteps.Shapes.{after, head, arm_body}
-use Rattle.item_pool.specs.Ownership.{places}
-use Rattle.item_pool.proofs.Rows.{Pl, St, Mark, size, mark, mark_made, start_made, triple, triple_made, room_to_row}
-use Rattle.item_pool.specs.contracts.places.Deed as D
-use Rattle.item_pool.specs.contracts.places.allocate as F
-use Rattle.item_pool.specs.contracts.places.allocate.Key.{name as #self}
-use Rattle.item_pool.proofs.places.allocate.Statement as stated
+-- `allocate` lends its handle to the allocator for one call, and asks for the bytes of `len` values.
+-- A block comes as room and a token. The room becomes the owner of `len` empty places, the token the deed, and both go out beside the block's start.
+-- A refusal is passed on, with nothing made. Assumes `Logic`.
+use Rattle.item_pool.proofs.Steps.{◌≡◌, refl, ap, true, false, ◌*◌, ◌<◌, ◌^◌, arith, [], ◌∷◌, replicate, w64, Val, vint, emp, fact_i, flft, Incl-trans, fact, ◌⊑◌, tables, toks, ‵, raw, ◌⊛◌, later, prop, at_ret, Sq, ◌$◌, ◌∵◌, !, qed, by, move, keep, drop, use0, use1, use2, split, fsplit, fsplit3, await, whole, agg, vrt, in_variant, stop, fld, lit, of_opd, bin, size_word, align_word, and_then, no_more, first, exec, returns, returns_within, enter, switches_on, alloc_all, pass_all, free_all, look_at, get, get_in, get_tag, is, sets, sets_last, lands_as, env, heard, proved, shr_vals, shr_Tells, uint_vals, uint_Tells, named, owns, ShrRef, usize, framed, calls_at, walk_of, None, IfOk, Err, FitsInBlock, Al, Answer-typed, Takes, Answered, answers, El, R, args, P, uncapped, block_ty, inst_fn, lit<, block_ptr, after, head, arm_body, word-Good, size, Spent, all_go, returned, then_on, Handed, handed, handed_out, refused, refused_val, handed_val, Three, three_val, Good, layout, Asking, asks, answered}
+use Rattle.item_pool.specs.contracts.places.allocate as contract
+use Rattle.item_pool.specs.contracts.places.allocate.Key.{name}
+use Rattle.item_pool.proofs.places.allocate.Statement.{statement}
 use Rattle.item_pool.proofs.places.allocate.Code as code
 
-module _ (E : El) (Z : Al) where
-  abbrev function : Fn
-  function = inst_fn (args E Z) code.function
-
-  abbrev ended : Ended
-  ended = F.ended E.row Z.row Z.g Z.d Z.drops
-
-  abbrev spec : {M : Type 1} {𝓤 : Ura M} (𝓛 : Logic 𝓤) → (Memory → SProp 𝓤) → (Routine → Fun 𝓤) → Clauses 𝓤 ended
-  spec 𝓛 = F.clauses E.row Z.row Z.g Z.d Z.drops 𝓛
-
-  abbrev stayed : Stays ended.signature.params ended.kept
-  stayed = (stay_dropped (RefOf (0 ∷ []) tt (plain (λ _. P E Z)) (λ _. tt)) yes, (stay_dropped (plain (λ _. usize)) yes, tt))
-
-  abbrev Dd : RattleType
-  Dd = D.the_row (R E) (P E Z) Z.g
-
-  -- what comes with a block
-  abbrev Made : RattleType
-  Made = Tuple (St E ∷ Pl E ∷ Dd ∷ [])
-
-  abbrev Out : RattleType
-  Out = Outcome.the_row Made Refusal.the_row
-
-module _ (E : El) (Z : Al) {M : Type 1} {𝓤 : Ura M} (𝓛 : Logic 𝓤) (at_mem : Memory → SProp 𝓤) (run : Routine → Fun 𝓤) (C : Calls 𝓤 𝓛.H) (Λ : Loops 𝓤 𝓛.H) (fm : FmC 𝓤 𝓛.H 𝓛.laws C)
-    (callee : Triple 𝓤 (C (takes_key Z)) (Takes Z 𝓛 at_mem run)) (κ κ₁ κ₂ : Lft) (q q₁ q₂ : Share) (short : κ ⊑ κ₂) (outlived : κ₂ ⊑ Z.row.lives) (rb ro : ℕ) (a : Z.row.Denot) (len : ℕ) (us0 us1 : List Val) where
-  open 𝓛 use {H, A}
-
-  abbrev alloc : Bor Z.row.Denot
-  alloc = record { ref_ptr = (rb, ro); now = a }
-
-  abbrev tokens : Item 𝓤
-  tokens = ‵ (flft κ₁ q₁) ⊛ ‵ (flft κ₂ q₂) ⊛ ‵ ftrue
-
-  abbrev bound : (walk_of 𝓛 (ended E Z) (stayed E Z) (spec E Z 𝓛 at_mem run)).Ghost
-  bound = (((κ, (κ₁, (κ₂, tt))), (q, (q₁, (q₂, tt))), (short, tt), (alloc, (len, tt)), (us0, (us1, tt))), tt)
-
-  abbrev Post : Val → SProp 𝓤
-  Post = (walk_of 𝓛 (ended E Z) (stayed E Z) (spec E Z 𝓛 at_mem run)).post bound
-
-  abbrev Left : (Out E Z).Denot → Val → List (Item 𝓤)
-  Left r v = ‵ ((Out E Z).own_val r (v ∷ [])) ∷ ‵ (flft κ q) ∷ tokens ∷ []
-
-  leaves : (r : (Out E Z).Denot) (v : Val) → IfOk r (λ t. (t.1.at ≡ t.0.ptr) × (t.1.row ≡ replicate len None) × (t.2.at ≡ t.0.ptr) × (t.2.len ≡ len) × (t.2.alloc ≡ a)) → ent 𝓤 (⋆ 𝓛 (Left r v)) (Post v)
-  leaves r v holds =
-      qed 𝓛 (Left r v) ∵ suffices ! _ (ends_at 𝓛 (ended E Z) (stayed E Z) (spec E Z 𝓛 at_mem run) bound v r (tt, (tt, tt)) (tt, (tt, tt))) $ says ! holds $
-      move ! (1 ∷ 2 ∷ []) $ join ! $ frame ! $ nothing ! $ nothing ! $ fjoin ! $ nothing ! $ fjoin ! $ done !
-
-  abbrev Had : List (Item 𝓤)
-  Had = ‵ (hidden_shr (P E Z) κ a rb ro) ∷ ‵ (flft κ q) ∷ tokens ∷ []
-
-  abbrev passes : List Val
-  passes = vptr rb ro ∷ vint w64 len ∷ []
-
-  walk : FitsInBlock (R E) len → len < 2 ^ 64 → ent 𝓤 (⋆ 𝓛 Had) (WpFn 𝓤 H C Λ (function E Z) passes Post)
-  walk asked fits =
-      let s = size E in let few : len * s < 2 ^ 63 = asked.0 in let bytes : len * s < 2 ^ 64 = omega arith in
-      let body : Body = (function E Z).body in let ty = block_ty E len in
-      qed 𝓛 Had ∵ enter ! C Λ (function E Z) passes _ $ alloc_all ! (λ l. pass_all ! refl ((tt, tt), ((tt, record { fits = fits }), tt)) $
-      let En : Env 𝓤 H = env (function E Z).locals l in
-      let arms : Body = head (after 2 body) in
-      let Then : After 𝓤 H = any_q (after_seq 𝓤 H (Wp 𝓤 H C Λ En (after 3 body) (at_return 𝓤 H En Post)) (at_return 𝓤 H En Post)) in
-      let al : ℕ = capped (align (elτ E)) in
-      let y : (Takes Z 𝓛 at_mem run).Ghost = at_takes Z 𝓛 at_mem run κ q (rb, ro) a (len * s) al ty in
-      sets ! (is ! (bin ! (get ! refl) (size_word !) (record { fits = subst (λ (k : ℕ). k < 2 ^ 64) (sym (uncapped len s bytes)) bytes })) (ap (vint w64) (uncapped len s bytes))) refl (tt, record { fits = bytes }) $
-      use2 𝓛 (raw ((Takes Z 𝓛 at_mem run).pre y)) (Takes-goes Z 𝓛 at_mem run κ q (rb, ro) a (Incl-trans short outlived) (len * s) al ty (block_size E len bytes) (block_align E len) bytes (capped_fits (align (elτ E)))) $
-      calls_at ! fm (Takes Z 𝓛 at_mem run) callee y (and_then ! (get ! refl) (and_then ! (get ! refl) (and_then ! (align_word !) (no_more !)))) (λ v.
-      use1 𝓛 (later (raw (Answered Z 𝓛 at_mem run a ty v) ⊛ ‵ (flft κ q))) (Takes-gives Z 𝓛 at_mem run κ q (rb, ro) a (len * s) al ty v) $ await ! tt $ split ! $
-      answers Z ! at_mem run a ty v
-      -- there was memory: the block's room is a row of empty places
-      (λ b o e.
-      let p : Ptr = block_ptr b o in
-      let start : (St E).Denot = record { ptr = p } in
-      let owner : (Pl E).Denot = record { mark = record {}; at = p; row = replicate len None } in
-      let deed : (Dd E Z).Denot = record { mark = record {}; at = p; len = len; alloc = a } in
-      let made : Val = triple (word p) mark mark in let answer = live 0 (vcons made vnil) in
-      let typed : Good (layout (Made E Z)) made = (tt, ((tt, tt), ((tt, tt), ((tt, tt), tt)))) in
-      let ok = first_Good (layout (Made E Z)) made typed in
-      lands_as ! e refl (Answer-typed true b o) $ first ! $ switches_on ! (get_tag ! (vrt ! refl (fld ! refl (stop !))) (whole !)) $ exec ! C Λ En (arm_body 0 arms) Then $
-      sets ! (of_opd ! (get_in ! (vrt ! refl (fld ! refl (stop !))) (in_variant ! 0 0 refl refl (whole !)))) refl (tt, tt) $ sets ! (of_opd ! (get ! refl)) refl (tt, tt) $
-      sets ! (agg ! (and_then ! (get ! refl) (no_more !))) refl (word-Good [] p) $
-      sets ! (agg ! (no_more !)) refl (tt, tt) $ sets ! (agg ! (and_then ! (get ! refl) (no_more !))) refl (tt, (tt, tt)) $
-      sets ! (agg ! (no_more !)) refl (tt, tt) $ sets ! (agg ! (and_then ! (get ! refl) (no_more !))) refl (tt, (tt, tt)) $
-      sets ! (agg ! (and_then ! (get ! refl) (and_then ! (get ! refl) (and_then ! (get ! refl) (no_more !))))) refl typed $
-      sets_last ! (agg ! (and_then ! (lit ! tt) (and_then ! (get ! refl) (no_more !)))) refl ok $
-      exec ! C Λ En (after 3 body) (at_ret En Post) $ sets ! (of_opd ! (get ! refl)) refl ok $
-      move ! (1 ∷ []) $ use0 𝓛 (‵ ((Mark E).own_val (tt, tt) (mark ∷ []))) (mark_made E 𝓛) $ fjoin ! $ move ! (1 ∷ []) $
-      as_written ! (ty_array (elτ E) len) b o $ use1 𝓛 (‵ (places (R E) b o owner.row)) (room_to_row E 𝓛 b len o) $
-      flt_i ! (length owner.row * s) (2 ^ 63) (subst (λ k. k * s < 2 ^ 63) (sym (length-replicate len None)) few) $ fjoin ! $
-      use0 𝓛 (‵ ((Mark E).own_val (tt, tt) (mark ∷ []))) (mark_made E 𝓛) $ fjoin ! $ start_made ! p $
-      use3 𝓛 (‵ ((Made E Z).own_val (start, owner, deed) (made ∷ []))) (triple_made 𝓛 (St E) (Pl E) (Dd E Z) start owner deed (word p) mark mark) $
-      use1 𝓛 (‵ ((Out E Z).own_val (Ok (start, owner, deed)) (answer ∷ []))) (ok_of 𝓛 (Made E Z) Refusal.the_row (start, owner, deed) made) $
-      returns ! (look_at ! 0 refl) $ free_all ! refl $ keep ! (0 ∷ 1 ∷ 2 ∷ []) $ by ! (leaves (Ok (start, owner, deed)) answer (refl, refl, refl, refl, refl)))
-      -- there was none
-      (λ e.
-      let No : RattleType = Struct (Declared.shape Refusal.the_type) in
-      let answer : Val = live 1 (vcons (vstruct vnil) vnil) in
-      lands_as ! e refl (Answer-typed false 0 0) $ first ! $ switches_on ! (get_tag ! (vrt ! refl (fld ! refl (stop !))) (whole !)) $ exec ! C Λ En (arm_body 1 arms) Then $
-      sets ! (of_opd ! (get_in ! (vrt ! refl (fld ! refl (stop !))) (in_variant ! 1 0 refl refl (whole !)))) refl (tt, tt) $
-      sets_last ! (agg ! (and_then ! (lit ! tt) (and_then ! (get ! refl) (no_more !)))) refl (tt, (record { fits = lit< tt }, (tt, tt))) $
-      exec ! C Λ En (after 3 body) (at_ret En Post) $ sets ! (of_opd ! (get ! refl)) refl (tt, (record { fits = lit< tt }, (tt, tt))) $
-      owned ! No (Is No) (Struct-Makes 𝓛 (Declared.shape Refusal.the_type) tt) tt (vstruct vnil ∷ []) (tt, (refl, tt)) $
-      use1 𝓛 (‵ ((Out E Z).own_val (Err (record {})) (answer ∷ []))) (err_of 𝓛 (Made E Z) Refusal.the_row (record {}) (vstruct vnil)) $
-      returns ! (look_at ! 0 refl) $ free_all ! refl $ keep ! (0 ∷ 1 ∷ 2 ∷ []) $ by ! (leaves (Err (record {})) answer tt))))
-
-  entry : FitsInBlock (R E) len → ent 𝓤 (on_entry 𝓛 (ended E Z).signature (κ, (κ₁, (κ₂, tt))) (q, (q₁, (q₂, tt))) (alloc, (len, tt)) (us0, (us1, tt))) (WpFn 𝓤 H C Λ (function E Z) (us0 ++ (us1 ++ [])) Post)
-  entry asked =
-      qed 𝓛 ((‵ (flft κ q) ⊛ tokens) ∷ ‵ (owns (ShrRef (named 0) κ (P E Z) ∷ usize ∷ []) (alloc, (len, tt)) (us0, (us1, tt))) ∷ []) ∵
-      split ! $ move ! (2 ∷ []) $ fsplit3 ! $ fsplit ! $ feq_l ! (λ e0. move ! (1 ∷ []) $ fsplit ! $ feq_l ! (λ e1. flt_l ! (λ fits. keep ! (0 ∷ 2 ∷ 3 ∷ []) $
-      let all : List Val × List Val → Type 1 = λ ws. ent 𝓤 (⋆ 𝓛 Had) (WpFn 𝓤 H C Λ (function E Z) (ws.0 ++ (ws.1 ++ [])) Post) in
-      by ! (subst all (λ j. (sym e0 j, sym e1 j)) (walk asked fits)))))
-
-meets : (E : El) (Z : Al) {M : Type 1} {𝓤 : Ura M} (𝓛 : Logic 𝓤) (at_mem : Memory → SProp 𝓤) (run : Routine → Fun 𝓤) (𝓣 : Tables 𝓤 𝓛.H) → Triple 𝓤 (𝓣.C (takes_key Z)) (Takes Z 𝓛 at_mem run)
-    → Meets 𝓛 (ended E Z).signature (WpFn 𝓤 𝓛.H 𝓣.C 𝓣.Λ (function E Z)) (closing 𝓛 (ended E Z) (spec E Z 𝓛 at_mem run))
-meets E Z {𝓤 = 𝓤} 𝓛 at_mem run 𝓣 callee =
-    walk_Meets 𝓛 (ended E Z) (stayed E Z) (Goes-dropped 𝓛 3 (RefOf (0 ∷ []) tt (plain (λ _. P E Z)) (λ _. tt)) yes (λ _ _ _. refl), (Goes-dropped 𝓛 3 (plain (λ _. usize)) yes (λ _ _ _. refl), tt))
-    (spec E Z 𝓛 at_mem run) (WpFn 𝓤 𝓛.H 𝓣.C 𝓣.Λ (function E Z)) (WpFn-mono 𝓤 𝓛.H 𝓛.laws 𝓣 (function E Z))
-    (λ z. let κs = z.0.0 in let qs = z.0.1 in let a = z.0.3 in let vs = z.0.4 in let On : SProp 𝓤 = on_entry 𝓛 (ended E Z).signature κs qs a vs in
-    let asks = FitsInBlock (R E) a.1.0 in
-    second 𝓤 (κs.1.0 ⊑ E.row.lives) (κs.1.1.0 ⊑ Z.row.lives) On (fact 𝓤 asks) (λ outlived. needs 𝓤 asks On
-    (entry E Z 𝓛 at_mem run 𝓣.C 𝓣.Λ (fm_of 𝓤 𝓛.H 𝓛.laws 𝓣) callee κs.0 κs.1.0 κs.1.1.0 qs.0 qs.1.0 qs.1.1.0 z.0.2.0 outlived a.0.ref_ptr.0 a.0.ref_ptr.1 a.0.now a.1.0 vs.0 vs.1.0)))
-
-pub allocate_spec : {M : Type 1} → stated.statement M
-unfolding tables_of
-allocate_spec 𝓤 𝓛 𝓜 𝓡 wired X W LX LW g d dd met md =
+pub allocate_spec : {M : Type 1} → statement M
+allocate_spec 𝓤 𝓛 𝓜 𝓡 wired X Y LX LY g d dd met md =
     let E : El = record { row = X; laws = LX } in
-    let Z : Al = record { row = W; laws = LW; g = g; d = d; drops = dd } in
-    let 𝓣 : Tables 𝓤 𝓛.H = tables_of 𝓤 𝓛.H 𝓜 (tables 𝓤 𝓛.H 𝓜 𝓡 𝓡.env) in
-    let spec_here = triple_of 𝓛 (ended E Z).signature (F.spec X W g d dd 𝓛 𝓜.mem 𝓡.returns) in
-    entered 𝓤 𝓛.H spec_here 𝓣.C 𝓣.Λ (#self (args E Z)) (function E Z) (code.unfolded 𝓤 𝓛.H 𝓜 𝓡 wired (X, (W, tt)) d dd) (meets E Z 𝓛 𝓜.mem 𝓡.returns 𝓣 (met.allocate dd))
+    let Z : Al = record { row = Y; laws = LY; g = g; d = d; drops = dd } in
+    let T = contract.ended X Y g d dd in
+    let c = contract.clauses X Y g d dd 𝓛 𝓜.mem 𝓡.returns in
+    let 𝓣 = tables 𝓤 𝓛.H 𝓜 𝓡 𝓡.env in
+    let function = inst_fn (args E Z) code.function in
+    proved 𝓛 T (Spent 𝓛 T c) c 𝓜 𝓡 (all_go 𝓛 3 T.signature.params T.kept ((λ κs x f. refl), ((λ κs x f. refl), tt)))
+    (name (args E Z)) function (code.unfolded 𝓤 𝓛.H 𝓜 𝓡 wired (X, (Y, tt)) d dd)
+    (λ κs. (shr_vals, (uint_vals w64, tt))) (λ κs. (shr_Tells (named 0) κs.0 (P E Z), (uint_Tells w64, tt)))
+    (λ κs qs bounds a n are.
+    let κ = κs.0 in let q = qs.0 in let handle = a.0 in let len = a.1.0 in
+    let W = walk_of 𝓛 T (Spent 𝓛 T c) c in
+    let y : W.Ghost = ((κs, qs, bounds, a, (shr_vals handle, (uint_vals w64 len, tt))), n) in
+    let others = toks 𝓛 2 κs.1 qs.1 in
+    let ends : (r : (Handed E Z).Denot) (v : Val) → IfOk r (λ t. (t.1.at ≡ t.0.ptr) × (t.1.row ≡ replicate len None) × (t.2.at ≡ t.0.ptr) × (t.2.len ≡ len) × (t.2.alloc ≡ handle.now))
+    → Sq 𝓛 (‵ ((Handed E Z).own_val r (v ∷ [])) ∷ ‵ (flft κ q) ∷ raw others ∷ []) (prop (W.post y v)) = λ r v promised.
+    by ! (returned 𝓛 T c y v r (tt, (tt, tt)) (fact_i 𝓤 _ (emp 𝓤) promised)) in
+    qed 𝓛 (((‵ (flft κ q) ⊛ raw others) ⊛ ‵ (owns (ShrRef (named 0) κ (P E Z) ∷ usize ∷ []) (handle, (len, tt)) y.0.4))
+    ∷ (raw (fact 𝓤 (κs.1.0 ⊑ X.lives)) ⊛ raw (fact 𝓤 (κs.1.1.0 ⊑ Y.lives)) ⊛ raw (fact 𝓤 (FitsInBlock (R E) len))) ∷ []) ∵
+    split ! $ split ! $ move ! (3 ∷ []) $ split ! $ drop ! $ split ! $ heard ! _ (λ within. heard ! _ (λ asked.
+    -- [the token; the other tokens; the parameters]
+    move ! (2 ∷ []) $ fsplit3 ! $ fsplit ! $ drop ! $ keep ! (0 ∷ 3 ∷ 4 ∷ []) $
+    let fit : len * size E < 2 ^ 64 = let small = asked.0 in omega arith in
+    let as_is = uncapped len (size E) fit in
+    enter ! _ _ _ _ _ $ alloc_all ! (λ l. pass_all ! refl ((tt, tt), ((tt, record { fits = are.1.0.1 }), tt)) $
+    let behind = then_on 𝓤 𝓛.H 𝓣.C 𝓣.Λ (env function.locals l) (after 3 function.body) (W.post y) in
+    sets ! (is ! (bin ! (get ! refl) (size_word !) (record { fits = rw as_is fit })) (ap (vint w64) as_is)) refl (tt, record { fits = fit }) $
+    use2 𝓛 (raw ((Takes Z 𝓛 𝓜.mem 𝓡.returns).pre (Asking E Z 𝓛 𝓜.mem 𝓡.returns κ q handle len))) (asks E Z 𝓛 𝓜.mem 𝓡.returns κ q handle len (Incl-trans bounds.0 within) fit) $
+    calls_at ! (framed 𝓤 𝓛.H 𝓜 𝓣) (Takes Z 𝓛 𝓜.mem 𝓡.returns) (met.allocate dd) (Asking E Z 𝓛 𝓜.mem 𝓡.returns κ q handle len)
+    (and_then ! (get ! refl) (and_then ! (get ! refl) (and_then ! (align_word !) (no_more !)))) (λ v.
+    use1 𝓛 (later (raw (Answered Z 𝓛 𝓜.mem 𝓡.returns handle.now (block_ty E len) v) ⊛ ‵ (flft κ q))) (answered E Z 𝓛 𝓜.mem 𝓡.returns κ q handle len v) $ await ! tt $ split ! $
+    answers Z ! 𝓜.mem 𝓡.returns handle.now (block_ty E len) v
+    (λ b o given.
+    -- [the room; its token; the lifetime's token; the other tokens]
+    let p = block_ptr b o in
+    lands_as ! given refl (Answer-typed true b o) $
+    first ! $ switches_on ! (get_tag ! (vrt ! refl (fld ! refl (stop !))) (whole !)) $
+    exec ! 𝓣.C 𝓣.Λ (env function.locals l) (arm_body 0 (head (after 2 function.body))) behind $
+    sets_last ! (of_opd ! (get_in ! (vrt ! refl (fld ! refl (stop !))) (in_variant ! 0 0 refl refl (whole !)))) refl (tt, tt) $
+    exec ! 𝓣.C 𝓣.Λ (env function.locals l) (after 3 function.body) (at_ret _ (W.post y)) $
+    sets ! (of_opd ! (get ! refl)) refl (tt, tt) $
+    sets ! (agg ! (and_then ! (get ! refl) (no_more !))) refl (word-Good [] p) $
+    sets ! (agg ! (no_more !)) refl (tt, tt) $
+    sets ! (agg ! (and_then ! (get ! refl) (no_more !))) refl (tt, (tt, tt)) $
+    sets ! (agg ! (no_more !)) refl (tt, tt) $
+    sets ! (agg ! (and_then ! (get ! refl) (no_more !))) refl (tt, (tt, tt)) $
+    let typed : Good (layout (Three E Z)) (three_val p) = (tt, ((tt, tt), ((tt, tt), ((tt, tt), tt)))) in
+    sets ! (agg ! (and_then ! (get ! refl) (and_then ! (get ! refl) (and_then ! (get ! refl) (no_more !))))) refl typed $
+    sets ! (agg ! (and_then ! (lit ! tt) (and_then ! (get ! refl) (no_more !)))) refl (tt, (record { fits = lit< tt }, (typed.1, tt))) $
+    use2 𝓛 (‵ ((Handed E Z).own_val (handed E Z 𝓛 len handle.now b o) (handed_val p ∷ []))) (handed_out E Z 𝓛 len handle.now b o asked.0) $
+    returns ! (look_at ! 0 refl) $ free_all ! refl $ keep ! (0 ∷ 1 ∷ 2 ∷ []) $ ends (handed E Z 𝓛 len handle.now b o) (handed_val p) (refl, refl, refl, refl, refl))
+    (λ given.
+    lands_as ! given refl (Answer-typed false 0 0) $
+    first ! $ switches_on ! (get_tag ! (vrt ! refl (fld ! refl (stop !))) (whole !)) $
+    exec ! 𝓣.C 𝓣.Λ (env function.locals l) (arm_body 1 (head (after 2 function.body))) behind $
+    sets ! (agg ! (no_more !)) refl (tt, tt) $
+    sets ! (agg ! (and_then ! (lit ! tt) (and_then ! (get ! refl) (no_more !)))) refl (tt, (record { fits = lit< tt }, (tt, tt))) $
+    use0 𝓛 (‵ ((Handed E Z).own_val (Err (record {})) (refused_val ∷ []))) (refused E Z 𝓛) $
+    returns_within ! (W.post y) refl (look_at ! 0 refl) $ free_all ! refl $ keep ! (0 ∷ 1 ∷ 2 ∷ []) $ ends (Err (record {})) refused_val tt))))))

@@ -1,158 +1,56 @@
--- `deallocate` makes one room of the empty places, and gives it back with the allocator's token. Assumes `Logic`.
-use mathlib.Core.Path.{◌≡◌, refl, sym, ap, subst, ◌∙◌}
-use Prim.Native.Nat.{ℕ, ◌*◌, ◌<◌, ◌^◌}
-use native.Mathlib.Omega.{arith}
-use mathlib.Core.List.{List, [], ◌∷◌, ◌++◌}
-use lib.Dec.{T}
-use lib.ListN.{replicate, length-replicate}
-use seplogic.Ra.Ura.{Ura}
-use mir.Syntax.{Fn, named, w64, ty_unit, ty_array}
-use mir.MapTy.{inst_fn}
-use mir.Val.{Val, vptr, vint, vunit, has_ty, WT}
-use base.Logic.{SProp, ent, never, id⊢}
-use base.Fml.{Lft, Share, Incl-trans, ftrue, froom, flft}
-use prog.Memory.{Memory, align, capped}
-use prog.Capped.{capped_fits}
-use prog.Routine.{Routine}
-use prog.Wp.{Env, Calls, Loops, WpFn, Tables}
-use contract.Monad.{Fun, fact}
-use contract.BorrowLft.{◌⊑◌}
-use contract.Running.{tables, tables_of}
-use sound.WpLaws.{WpFn-mono, FmC, fm_of}
-use types.Logic.{Logic}
-use types.Kit.{Item, ⋆, ‵, raw, ◌⊛◌, given, later, await, learn, at_ret, ◌$◌, ◌∵◌, !, qed, by, move, keep, use1, split, join, group, rewrite, fsplit, fsplit3, fjoin, feq_i, feq_l, flt_l, suffices, done}
-use types.Part.{whole, sub}
-use types.Run.{stop, fld, unit_lit, of_opd, and_then, no_more, first, blocks, exec, returns, enter, bin, size_word, align_word}
-use types.ByLocal.{alloc_all, pass_all, free_all, look_at, get, get_in, sets, lands_last, is, env}
-use denote.Exit.{yes, no}
-use denote.RattleType.{RattleType, owns}
-use denote.Memory.{hidden_shr}
-use denote.RawPtr.{Ptr, ptr_val, in_a_block}
-use denote.Ref.{Bor, ShrRef}
-use denote.Builtin.{RefOf, usize}
-use denote.Signature.{plain}
-use denote.Steps.{nothing}
-use denote.Triple.Call.{calls_at_last}
-use denote.Triple.Clauses.{Clauses, Ended, closing}
-use denote.Triple.Entry.{on_entry}
-use denote.Triple.Spec.{Meets, triple_of}
-use denote.Triple.Statement.{Triple}
-use denote.Triple.Table.{entered}
-use denote.Triple.Walked.{needs, Stays, stay_dropped, walk_of, ends_at, Goes-dropped, walk_Meets}
-use Rattle.std.specs.Prelude.{None}
-use Rattle.core.proofs.mem.Param.{El, R, elτ}
-use Rattle.core.proofs.alloc.Calls.{Al, second, token, gives_key, Gives, at_gives, Gives-goes, Gives-Gives, Goes-blank}
-use Rattle.core.proofs.slots.Leases.{uncapped, block_ty, block_size, block_align, args, P}
-use Rattle.std_alloc.proofs.RawLayout.{as_raw}
-use Rattle.std_alloc.proofs.RcSteps.{word, word-Good}
-use Rattle.std_alloc.proofs.VecSteps.Shapes.{after}
-use Rattle.item_pool.specs.Ownership.{places_owned, deed_owned}
-use Rattle.item_pool.proofs.Rows.{Pl, St, size, Place, mark, mark_had, start_had, row_to_room}
-use Rattle.item_pool.specs.contracts.places.Deed as D
-use Rattle.item_pool.specs.contracts.places.deallocate as F
-use Rattle.item_pool.specs.contracts.places.deallocate.Key.{name as #self}
-use Rattle.item_pool.proofs.places.deallocate.Statement as stated
+-- `deallocate` takes the owner and the deed apart: empty places that stand one behind another are room again, and the deed is the allocator's token.
+-- Both go back to the allocator, which keeps them. Assumes `Logic`.
+use Rattle.item_pool.proofs.Steps.{◌≡◌, refl, ap, subst, sym, ◌*◌, ◌<◌, ◌^◌, arith, List, [], ◌∷◌, w64, ty_unit, Val, vint, vunit, emp, id⊢, flft, Incl-trans, fact, ◌⊑◌, tables, toks, ‵, raw, ◌⊛◌, given, later, at_ret, ◌$◌, ◌∵◌, !, qed, by, move, keep, drop, use1, split, group, learn, fsplit, fsplit3, feq_i, await, whole, sub, stop, fld, of_opd, unit_lit, bin, size_word, align_word, and_then, no_more, first, blocks, exec, returns, enter, alloc_all, pass_all, free_all, look_at, get, get_in, is, sets, lands_last, env, heard, proved, shr_vals, shr_Tells, uint_vals, uint_Tells, named, owns, ShrRef, usize, framed, calls_at_last, walk_of, Al, Gives, El, R, args, P, uncapped, inst_fn, ptr_val, after, Good, word-Good, size, St, Pl, De, Spent, all_go, returned, param_laws, OfOne, handed_in, Giving, gives, gave}
+use Rattle.item_pool.specs.contracts.places.deallocate as contract
+use Rattle.item_pool.specs.contracts.places.deallocate.Key.{name}
+use Rattle.item_pool.proofs.places.deallocate.Statement.{statement}
 use Rattle.item_pool.proofs.places.deallocate.Code as code
+use Rattle.item_pool.proofs.places.Start.TheLaws as start
+use Rattle.item_pool.proofs.places.Places.TheLaws as places
+use Rattle.item_pool.proofs.places.Deed.TheLaws as deed
 
-module _ (E : El) (Z : Al) where
-  abbrev function : Fn
-  function = inst_fn (args E Z) code.function
-
-  abbrev ended : Ended
-  ended = F.ended E.row Z.row Z.g Z.d Z.drops
-
-  abbrev spec : {M : Type 1} {𝓤 : Ura M} (𝓛 : Logic 𝓤) → (Memory → SProp 𝓤) → (Routine → Fun 𝓤) → Clauses 𝓤 ended
-  spec 𝓛 = F.clauses E.row Z.row Z.g Z.d Z.drops 𝓛
-
-  abbrev Dd : RattleType
-  Dd = D.the_row (R E) (P E Z) Z.g
-
-  abbrev stayed : Stays ended.signature.params ended.kept
-  stayed = (stay_dropped (RefOf (0 ∷ []) tt (plain (λ _. P E Z)) (λ _. tt)) yes, (stay_dropped (plain (λ _. St E)) no, (stay_dropped (plain (λ _. usize)) yes, (stay_dropped (plain (λ _. Pl E)) no, (stay_dropped (plain (λ _. Dd)) no, tt)))))
-
-  abbrev Needs : Z.row.Denot → (St E).Denot → ℕ → (Pl E).Denot → Dd.Denot → Type 0
-  Needs a start len owner deed = (owner.at ≡ start.ptr) × (owner.row ≡ replicate len None) × (deed.at ≡ start.ptr) × (deed.len ≡ len) × (deed.alloc ≡ a)
-
-module _ (E : El) (Z : Al) {M : Type 1} {𝓤 : Ura M} (𝓛 : Logic 𝓤) (at_mem : Memory → SProp 𝓤) (run : Routine → Fun 𝓤) (C : Calls 𝓤 𝓛.H) (Λ : Loops 𝓤 𝓛.H) (fm : FmC 𝓤 𝓛.H 𝓛.laws C)
-    (callee : Triple 𝓤 (C (gives_key Z)) (Gives Z 𝓛 at_mem run)) (κ κ₁ κ₂ : Lft) (q q₁ q₂ : Share) (short : κ ⊑ κ₂) (outlived : κ₂ ⊑ Z.row.lives) (rb ro : ℕ) (a : Z.row.Denot)
-    (start : (St E).Denot) (len : ℕ) (owner : (Pl E).Denot) (deed : (Dd E Z).Denot) (us0 us1 us2 us3 us4 : List Val) where
-  open 𝓛 use {H, A}
-
-  abbrev alloc : Bor Z.row.Denot
-  alloc = record { ref_ptr = (rb, ro); now = a }
-
-  abbrev tokens : Item 𝓤
-  tokens = ‵ (flft κ₁ q₁) ⊛ ‵ (flft κ₂ q₂) ⊛ ‵ ftrue
-
-  abbrev bound : (walk_of 𝓛 (ended E Z) (stayed E Z) (spec E Z 𝓛 at_mem run)).Ghost
-  bound = (((κ, (κ₁, (κ₂, tt))), (q, (q₁, (q₂, tt))), (short, tt), (alloc, (start, (len, (owner, (deed, tt))))), (us0, (us1, (us2, (us3, (us4, tt)))))), tt)
-
-  abbrev Post : Val → SProp 𝓤
-  Post = (walk_of 𝓛 (ended E Z) (stayed E Z) (spec E Z 𝓛 at_mem run)).post bound
-
-  leaves : ent 𝓤 (⋆ 𝓛 (‵ (flft κ q) ∷ tokens ∷ [])) (Post vunit)
-  leaves =
-      qed 𝓛 (‵ (flft κ q) ∷ tokens ∷ []) ∵
-      suffices ! _ (ends_at 𝓛 (ended E Z) (stayed E Z) (spec E Z 𝓛 at_mem run) bound vunit tt (tt, (tt, (tt, (tt, (tt, tt))))) (tt, (tt, (tt, (tt, (tt, tt)))))) $
-      join ! $ feq_i ! (List Val) (vunit ∷ []) (vunit ∷ []) refl $ nothing ! $ nothing ! $ fjoin ! $ nothing ! $ fjoin ! $ nothing ! $ fjoin ! $ nothing ! $ fjoin ! $ nothing ! $ fjoin ! $ join ! $
-      move ! (1 ∷ 0 ∷ []) $ join ! $ nothing ! $ move ! (1 ∷ 0 ∷ []) $ done !
-
-  abbrev Had : List (Item 𝓤)
-  Had = ‵ (places_owned (R E) owner.at owner.row) ∷ ‵ (deed_owned (R E) (token Z deed.alloc) deed.at deed.len) ∷ ‵ (hidden_shr (P E Z) κ a rb ro) ∷ ‵ (flft κ q) ∷ tokens ∷ []
-
-  abbrev passes : List Val
-  passes = vptr rb ro ∷ word start.ptr ∷ vint w64 len ∷ mark ∷ mark ∷ []
-
-  walk : Needs E Z a start len owner deed → len < 2 ^ 64 → ent 𝓤 (⋆ 𝓛 Had) (WpFn 𝓤 H C Λ (function E Z) passes Post)
-  walk asked fits =
-      qed 𝓛 Had ∵ enter ! C Λ (function E Z) passes _ $
-      alloc_all ! (λ l. pass_all ! refl ((tt, tt), (word-Good [] start.ptr, ((tt, record { fits = fits }), ((tt, (tt, tt)), ((tt, (tt, tt)), tt))))) $
-      let En : Env 𝓤 H = env (function E Z).locals l in
-      let s = size E in let al : ℕ = capped (align (elτ E)) in let ty = block_ty E len in
-      rewrite ! 0 (λ (c : Ptr × List (Place E)). ‵ (places_owned (R E) c.0 c.1)) (λ i. (asked.0 i, asked.1 i)) refl $
-      in_a_block ! start.ptr (λ p. places_owned (R E) p (replicate len None)) (id⊢ 𝓤 (never 𝓤)) (λ b o e. fsplit ! $ flt_l ! (λ is_short.
-      let few : len * s < 2 ^ 63 = subst (λ k. k * s < 2 ^ 63) (length-replicate len None) is_short in let bytes : len * s < 2 ^ 64 = omega arith in
-      let y : (Gives Z 𝓛 at_mem run).Ghost = at_gives Z 𝓛 at_mem run κ q (rb, ro) a b o (len * s) al ty in
-      rewrite ! 1 (λ (c : Z.row.Denot × Ptr × ℕ). ‵ (deed_owned (R E) (token Z c.0) c.1 c.2)) (λ i. (asked.4 i, (asked.2 ∙ e) i, asked.3 i)) refl $
-      use1 𝓛 (‵ (froom (ty_array (elτ E) len) b o)) (row_to_room E 𝓛 b len o) $ as_raw ! (ty_array (elτ E) len) b o $ first ! $ blocks ! $
-      sets ! (is ! (of_opd ! (get_in ! (fld ! refl (stop !)) (sub ! 0 refl (whole !)))) (ap ptr_val e)) refl (tt, tt) $
-      sets ! (is ! (bin ! (get ! refl) (size_word !) (record { fits = subst (λ (k : ℕ). k < 2 ^ 64) (sym (uncapped len s bytes)) bytes })) (ap (vint w64) (uncapped len s bytes))) refl (tt, record { fits = bytes }) $
-      group ! 4 $ use1 𝓛 (raw ((Gives Z 𝓛 at_mem run).pre y)) (Gives-goes Z 𝓛 at_mem run κ q (rb, ro) a (Incl-trans short outlived) b o (len * s) al ty (block_size E len bytes) (block_align E len) bytes (capped_fits (align (elτ E)))) $
-      calls_at_last ! fm (Gives Z 𝓛 at_mem run) callee y (and_then ! (get ! refl) (and_then ! (get ! refl) (and_then ! (get ! refl) (and_then ! (align_word !) (no_more !))))) (λ v.
-      use1 𝓛 (later (given (v ≡ vunit) (‵ (flft κ q)))) (Gives-Gives Z 𝓛 at_mem run κ q (rb, ro) a b o (len * s) al ty v) $ await ! tt $ learn ! (λ is_unit.
-      lands_last ! refl (subst (λ (z : Val). T (has_ty ty_unit z) × WT z) (sym is_unit) (tt, tt)) $ exec ! C Λ En (after 1 (function E Z).body) (at_ret En Post) $
-      sets ! (of_opd ! (unit_lit !)) refl (tt, tt) $ returns ! (look_at ! 0 refl) $ free_all ! refl $ keep ! (0 ∷ 1 ∷ []) $ by ! leaves)))))
-
-  entry : Needs E Z a start len owner deed → ent 𝓤 (on_entry 𝓛 (ended E Z).signature (κ, (κ₁, (κ₂, tt))) (q, (q₁, (q₂, tt))) (alloc, (start, (len, (owner, (deed, tt))))) (us0, (us1, (us2, (us3, (us4, tt)))))) (WpFn 𝓤 H C Λ (function E Z) (us0 ++ (us1 ++ (us2 ++ (us3 ++ (us4 ++ []))))) Post)
-  entry asked =
-      qed 𝓛 ((‵ (flft κ q) ⊛ tokens) ∷ ‵ (owns (ShrRef (named 0) κ (P E Z) ∷ St E ∷ usize ∷ Pl E ∷ Dd E Z ∷ []) (alloc, (start, (len, (owner, (deed, tt))))) (us0, (us1, (us2, (us3, (us4, tt)))))) ∷ []) ∵
-      split ! $ move ! (2 ∷ []) $ fsplit3 ! $ fsplit ! $ feq_l ! (λ e0. move ! (1 ∷ []) $ start_had ! start.ptr us1 (λ e1. move ! (1 ∷ []) $ fsplit3 ! $ fsplit ! $ feq_l ! (λ e2. flt_l ! (λ fits.
-      fsplit ! $ mark_had ! E us3 (λ e3. move ! (1 ∷ []) $ fsplit ! $ fsplit ! $ mark_had ! E us4 (λ e4. keep ! (2 ∷ 0 ∷ 3 ∷ 4 ∷ 5 ∷ []) $
-      let all : List Val × List Val × List Val × List Val × List Val → Type 1 = λ ws. ent 𝓤 (⋆ 𝓛 Had) (WpFn 𝓤 H C Λ (function E Z) (ws.0 ++ (ws.1 ++ (ws.2 ++ (ws.3 ++ (ws.4 ++ []))))) Post) in
-      by ! (subst all (λ j. (sym e0 j, sym e1 j, sym e2 j, sym e3 j, sym e4 j)) (walk asked fits))))))))
-
-meets : (E : El) (Z : Al) {M : Type 1} {𝓤 : Ura M} (𝓛 : Logic 𝓤) (at_mem : Memory → SProp 𝓤) (run : Routine → Fun 𝓤) (𝓣 : Tables 𝓤 𝓛.H) → Triple 𝓤 (𝓣.C (gives_key Z)) (Gives Z 𝓛 at_mem run)
-    → Meets 𝓛 (ended E Z).signature (WpFn 𝓤 𝓛.H 𝓣.C 𝓣.Λ (function E Z)) (closing 𝓛 (ended E Z) (spec E Z 𝓛 at_mem run))
-meets E Z {𝓤 = 𝓤} 𝓛 at_mem run 𝓣 callee =
-    walk_Meets 𝓛 (ended E Z) (stayed E Z) (
-      Goes-dropped 𝓛 3 (RefOf (0 ∷ []) tt (plain (λ _. P E Z)) (λ _. tt)) yes (λ _ _ _. refl),
-      (
-        Goes-dropped 𝓛 3 (plain (λ _. St E)) no (λ _ _ _. refl),
-        (Goes-dropped 𝓛 3 (plain (λ _. usize)) yes (λ _ _ _. refl), (Goes-blank 𝓛 3 (plain (λ _. Pl E)) no (λ _ _ _. tt), (Goes-blank 𝓛 3 (plain (λ _. Dd E Z)) no (λ _ _ _. tt), tt))),
-      ),
-    )
-    (spec E Z 𝓛 at_mem run) (WpFn 𝓤 𝓛.H 𝓣.C 𝓣.Λ (function E Z)) (WpFn-mono 𝓤 𝓛.H 𝓛.laws 𝓣 (function E Z))
-    (λ z. let κs = z.0.0 in let qs = z.0.1 in let a = z.0.3 in let vs = z.0.4 in let On : SProp 𝓤 = on_entry 𝓛 (ended E Z).signature κs qs a vs in
-    let asks = Needs E Z a.0.now a.1.0 a.1.1.0 a.1.1.1.0 a.1.1.1.1.0 in
-    second 𝓤 (κs.1.0 ⊑ E.row.lives) (κs.1.1.0 ⊑ Z.row.lives) On (fact 𝓤 asks) (λ outlived. needs 𝓤 asks On
-    (entry E Z 𝓛 at_mem run 𝓣.C 𝓣.Λ (fm_of 𝓤 𝓛.H 𝓛.laws 𝓣) callee κs.0 κs.1.0 κs.1.1.0 qs.0 qs.1.0 qs.1.1.0 z.0.2.0 outlived a.0.ref_ptr.0 a.0.ref_ptr.1 a.0.now
-    a.1.0 a.1.1.0 a.1.1.1.0 a.1.1.1.1.0 vs.0 vs.1.0 vs.1.1.0 vs.1.1.1.0 vs.1.1.1.1.0)))
-
-pub deallocate_spec : {M : Type 1} → stated.statement M
-unfolding tables_of
-deallocate_spec 𝓤 𝓛 𝓜 𝓡 wired X W LX LW g d dd met md =
+pub deallocate_spec : {M : Type 1} → statement M
+deallocate_spec 𝓤 𝓛 𝓜 𝓡 wired X Y LX LY g d dd met md =
     let E : El = record { row = X; laws = LX } in
-    let Z : Al = record { row = W; laws = LW; g = g; d = d; drops = dd } in
-    let 𝓣 : Tables 𝓤 𝓛.H = tables_of 𝓤 𝓛.H 𝓜 (tables 𝓤 𝓛.H 𝓜 𝓡 𝓡.env) in
-    let spec_here = triple_of 𝓛 (ended E Z).signature (F.spec X W g d dd 𝓛 𝓜.mem 𝓡.returns) in
-    entered 𝓤 𝓛.H spec_here 𝓣.C 𝓣.Λ (#self (args E Z)) (function E Z) (code.unfolded 𝓤 𝓛.H 𝓜 𝓡 wired (X, (W, tt)) d dd) (meets E Z 𝓛 𝓜.mem 𝓡.returns 𝓣 (met.deallocate dd))
+    let Z : Al = record { row = Y; laws = LY; g = g; d = d; drops = dd } in
+    let T = contract.ended X Y g d dd in
+    let c = contract.clauses X Y g d dd 𝓛 𝓜.mem 𝓡.returns in
+    let 𝓣 = tables 𝓤 𝓛.H 𝓜 𝓡 𝓡.env in
+    let function = inst_fn (args E Z) code.function in
+    let of_start = start.lowers (R E) (param_laws 0 X LX) in
+    let of_places = places.lowers (R E) (param_laws 0 X LX) in
+    let of_deed = deed.lowers (R E) (P E Z) g (param_laws 0 X LX) (param_laws 1 Y LY) in
+    proved 𝓛 T (Spent 𝓛 T c) c 𝓜 𝓡
+    (all_go 𝓛 3 T.signature.params T.kept ((λ κs x f. refl), ((λ κs x f. refl), ((λ κs x f. refl), ((λ κs x f. refl), ((λ κs x f. refl), tt))))))
+    (name (args E Z)) function (code.unfolded 𝓤 𝓛.H 𝓜 𝓡 wired (X, (Y, tt)) d dd)
+    (λ κs. (shr_vals, ((λ x. of_start.lowered x ∷ []), (uint_vals w64, ((λ x. of_places.lowered x ∷ []), ((λ x. of_deed.lowered x ∷ []), tt))))))
+    (λ κs. (shr_Tells (named 0) κs.0 (P E Z), (of_start.val_is, (uint_Tells w64, (of_places.val_is, (of_deed.val_is, tt))))))
+    (λ κs qs bounds a n are.
+    let κ = κs.0 in let q = qs.0 in let handle = a.0 in let begins = a.1.0 in let len = a.1.1.0 in
+    let owner = a.1.1.1.0 in let right = a.1.1.1.1.0 in
+    let W = walk_of 𝓛 T (Spent 𝓛 T c) c in
+    let y : W.Ghost = ((κs, qs, bounds, a, (shr_vals handle, (of_start.lowered begins ∷ [], (uint_vals w64 len, (of_places.lowered owner ∷ [], (of_deed.lowered right ∷ [], tt)))))), n) in
+    let others = toks 𝓛 2 κs.1 qs.1 in
+    qed 𝓛 (((‵ (flft κ q) ⊛ raw others) ⊛ ‵ (owns (ShrRef (named 0) κ (P E Z) ∷ St E ∷ usize ∷ Pl E ∷ De E Z ∷ []) a y.0.4))
+    ∷ (raw (fact 𝓤 (κs.1.0 ⊑ X.lives)) ⊛ raw (fact 𝓤 (κs.1.1.0 ⊑ Y.lives)) ⊛ raw (fact 𝓤 (OfOne E Z owner right begins.ptr len handle.now))) ∷ []) ∵
+    split ! $ split ! $ move ! (3 ∷ []) $ split ! $ drop ! $ split ! $ heard ! _ (λ within. heard ! _ (λ one.
+    -- [the token; the other tokens; the parameters]
+    move ! (2 ∷ []) $ fsplit3 ! $ fsplit ! $ drop ! $ move ! (2 ∷ []) $ fsplit3 ! $ move ! (2 ∷ []) $ fsplit ! $ keep ! (3 ∷ 0 ∷ 4 ∷ 6 ∷ 7 ∷ []) $
+    -- [the owner; the deed; the handle; the token; the other tokens]
+    enter ! _ _ _ _ _ $ alloc_all ! (λ l. pass_all ! refl ((tt, tt), (word-Good [] begins.ptr, ((tt, record { fits = are.1.1.0.1 }), ((tt, (tt, tt)), ((tt, (tt, tt)), tt))))) $
+    handed_in E Z ! owner right begins.ptr len handle.now (of_places.lowered owner ∷ []) (of_deed.lowered right ∷ []) one (λ b o there small.
+    -- [the room; its token; the handle; the token; the other tokens]
+    let fit : len * size E < 2 ^ 64 = omega arith in
+    let as_is = uncapped len (size E) fit in
+    first ! $ blocks ! $
+    sets ! (is ! (of_opd ! (get_in ! (fld ! refl (stop !)) (sub ! 0 refl (whole !)))) (ap ptr_val there)) refl (tt, tt) $
+    sets ! (is ! (bin ! (get ! refl) (size_word !) (record { fits = rw as_is fit })) (ap (vint w64) as_is)) refl (tt, record { fits = fit }) $
+    group ! 4 $ use1 𝓛 (raw ((Gives Z 𝓛 𝓜.mem 𝓡.returns).pre (Giving E Z 𝓛 𝓜.mem 𝓡.returns κ q handle len b o))) (gives E Z 𝓛 𝓜.mem 𝓡.returns κ q handle len b o (Incl-trans bounds.0 within) fit) $
+    calls_at_last ! (framed 𝓤 𝓛.H 𝓜 𝓣) (Gives Z 𝓛 𝓜.mem 𝓡.returns) (met.deallocate dd) (Giving E Z 𝓛 𝓜.mem 𝓡.returns κ q handle len b o)
+    (and_then ! (get ! refl) (and_then ! (get ! refl) (and_then ! (get ! refl) (and_then ! (align_word !) (no_more !))))) (λ v.
+    use1 𝓛 (later (given (v ≡ vunit) (‵ (flft κ q)))) (gave E Z 𝓛 𝓜.mem 𝓡.returns κ q handle len b o v) $ await ! tt $ learn ! (λ is_unit.
+    lands_last ! refl (subst (λ (w : Val). Good ty_unit w) (sym is_unit) (tt, tt)) $
+    exec ! 𝓣.C 𝓣.Λ (env function.locals l) (after 1 function.body) (at_ret _ (W.post y)) $
+    sets ! (of_opd ! (unit_lit !)) refl (tt, tt) $
+    feq_i ! (List Val) (vunit ∷ []) (vunit ∷ []) refl $ returns ! (look_at ! 0 refl) $ free_all ! refl $ keep ! (0 ∷ 1 ∷ 2 ∷ []) $
+    by ! (returned 𝓛 T c y vunit tt (tt, (tt, (tt, (tt, (tt, tt))))) (id⊢ 𝓤 (emp 𝓤))))))))))

@@ -1,163 +1,61 @@
--- `take` moves a value out, and leaves its place empty. Assumes `Logic`.
-use mathlib.Core.Path.{◌≡◌, refl, sym, subst, ◌∙◌}
-use Prim.Native.Nat.{ℕ, ◌+◌, ◌*◌, ◌<◌, ◌^◌}
-use native.Mathlib.Omega.{arith}
-use mathlib.Core.List.{List, [], ◌∷◌, ◌++◌}
-use lib.ListN.{length, set, get_or, length-set}
-use seplogic.Ra.Ura.{Ura}
-use base.Fraction.{full_share}
-use base.Logic.{SProp, ent, sep, never, id⊢}
-use base.Fml.{Lft, GName, Share, ftrue, fat, froom, flft, fobs, fbor}
-use mir.Syntax.{Fn, named, w64}
-use mir.MapTy.{inst_fn}
-use mir.Val.{Val, vptr, vint}
-use prog.Wp.{Env, Calls, Loops, WpFn, Tables}
-use contract.Monad.{fact}
-use contract.Running.{tables, tables_of}
-use sound.WpLaws.{WpFn-mono}
-use types.Logic.{Logic}
-use types.Kit.{Item, ⋆, ‵, ◌⊛◌, some, given, pick, learn, at_ret, ◌$◌, ◌∵◌, !, qed, by, move, keep, use1, use2, split, join, rewrite, fsplit, fsplit3, fjoin, fjoin3, feq_i, feq_l, flt_l, flt_i, suffices, frame, done}
-use types.Part.{whole, sub}
-use types.Run.{look, stop, fld, load, of_opd, first, blocks, exec, returns, enter, bin, size_lit}
-use types.ByLocal.{alloc_all, pass_all, free_all, look_at, get, get_in, through, sets, sets_last, env, take_at, give_at}
-use types.SemTy.{Body as Borrowed}
-use denote.Exit.{yes, no}
-use denote.RattleType.{owns}
-use denote.Memory.{mem}
-use denote.Param.{layout}
-use denote.RawPtr.{Ptr, in_a_block}
-use denote.Ref.{MutBor, MutRef}
-use denote.Builtin.{RefMutOf, usize}
-use denote.Signature.{plain}
-use denote.Steps.{nothing, opens, closes}
-use denote.Triple.Carry.{spared}
-use denote.Triple.Clauses.{Clauses, Ended, closing}
-use denote.Triple.Entry.{on_entry}
-use denote.Triple.Spec.{Meets, triple_of}
-use denote.Triple.Table.{entered, run_framed}
-use denote.Triple.Walked.{needs, Stays, stay_dropped, stay_ref, walk_of, ends_at, Goes-dropped, Goes-ref, walk_Meets}
-use Rattle.std.specs.Prelude.{Some, None}
-use Rattle.core.proofs.mem.Param.{El, R, args, elτ}
-use Rattle.core.proofs.ptr.Rows.{times_below, one_below}
-use Rattle.std_alloc.proofs.VecSteps.Shapes.{after}
-use Rattle.std_alloc.proofs.RcSteps.{Good, word, word-Good}
-use Rattle.std_alloc.proofs.RawLayout.{as_raw}
-use Rattle.item_pool.specs.Filled.{IsFilled}
-use Rattle.item_pool.specs.Ownership.{place, places, places_owned}
-use Rattle.item_pool.specs.PlaceLent.{with_row}
-use Rattle.item_pool.proofs.Rows.{Pl, St, size, Place, start_had, says_two, value_out, in_row, others, place_out, place_in}
-use Rattle.item_pool.specs.contracts.places.Places.take.Key.{name as #self}
-use Rattle.item_pool.proofs.places.Places.take.Statement as stated
+-- `take` opens the `&mut` to the owner at the filled place, reads the value out of it, and shuts the owner over the room that is left. Assumes `Logic`.
+use Rattle.item_pool.proofs.Steps.{◌≡◌, refl, ap, sym, subst, ◌∙◌, ℕ, ◌+◌, ◌*◌, ◌<◌, ◌^◌, List, [], ◌∷◌, length, w64, Val, vunit, emp, ent, sep, fact_i, flft, fact, ◌⊑◌, tables, toks, ‵, raw, ◌⊛◌, at_ret, ◌$◌, ◌∵◌, !, qed, by, move, keep, drop, use0, use3, split, join, fsplit, fsplit3, fjoin, feq_i, frame, suffices, whole, sub, stop, fld, init, of_opd, unit_lit, assigns_last, through, first, blocks, exec, returns, enter, alloc_all, pass_all, free_all, look_at, get, get_in, is, sets, env, heard, opens, closes, proved_at, leaves, mut_vals, mut_Tells, uint_vals, uint_Tells, named, yes, no, owns, flat, types_at, Vals, Lasts, MutRef, usize, plain, on_entry, WpFn, Stays, stay_ref, Goes-ref, walk_of, El, R, inst_fn, ptr_val, ◌+ₚ◌, after, word-Good, size, St, Pl, spent, all_go, nothing_left, has_of, near, opened, shut, with_row, place, Place, set, get_or, None, Some, value_in, fat, froom, full_share, layout, elτ, Ptr, block_ptr, word, size_word, bin, uncapped, vint, take_at, give_at, rewrite, use1, use2, done, as_written, param_laws, proved, some, given, pick, learn, load, look, sets_last, as_raw, value_out, in_row, IsFilled, Good}
+use Rattle.core.proofs.mem.Param.{args}
+use Rattle.item_pool.specs.contracts.places.Places.take as contract
+use Rattle.item_pool.specs.contracts.places.Places.take.Key.{name}
+use Rattle.item_pool.proofs.places.Places.take.Statement.{statement}
 use Rattle.item_pool.proofs.places.Places.take.Code as code
+use Rattle.item_pool.proofs.places.Start.TheLaws as start
 
-module _ (E : El) where
-  abbrev function : Fn
-  function = inst_fn (args E) code.function
-
-  abbrev ended : Ended
-  ended = record {
-    signature = record {
-      lifetimes = 1;
-      outlives = [];
-      params = RefMutOf (0 ∷ []) tt (plain (λ _. Pl E)) (λ _. tt) ∷ plain (λ _. St E) ∷ plain (λ _. usize) ∷ [];
-      result = plain (λ _. R E);
-    };
-    kept = (yes, (no, (no, tt)));
-  }
-
-  abbrev stayed : Stays ended.signature.params ended.kept
-  stayed = (stay_ref (0 ∷ []) tt (plain (λ _. Pl E)), (stay_dropped (plain (λ _. St E)) no, (stay_dropped (plain (λ _. usize)) no, tt)))
-
-  abbrev Needs : (Pl E).Denot → (St E).Denot → ℕ → Type 0
-  Needs d start index = (start.ptr ≡ d.at) × IsFilled d.row index
-
-  abbrev Answers : (Pl E).Denot → ℕ → (R E).Denot → Type 0
-  Answers d index r = get_or d.row index None ≡ Some r
-
-  abbrev Leaves : (Pl E).Denot → ℕ → (Pl E).Denot → Type 0
-  Leaves d index new = (new.at ≡ d.at) × (new.row ≡ set d.row index None)
-
-  abbrev spec : {M : Type 1} {𝓤 : Ura M} (𝓛 : Logic 𝓤) → Clauses 𝓤 ended
-  spec {𝓤 = 𝓤} 𝓛 κs a = record {
-    ghost = Unit {0};
-    requires = λ _. fact 𝓤 (Needs a.0.now a.1.0 a.1.1.0);
-    ensures = λ _ r w. sep 𝓤 (fact 𝓤 (Answers a.0.now a.1.1.0 r)) (fact 𝓤 (Leaves a.0.now a.1.1.0 w.0.now));
-  }
-
-module _ (E : El) {M : Type 1} {𝓤 : Ura M} (𝓛 : Logic 𝓤) (C : Calls 𝓤 𝓛.H) (Λ : Loops 𝓤 𝓛.H) (κ : Lft) (q : Share) (rb ro : ℕ) (γ : GName) (d : (Pl E).Denot) (start : (St E).Denot) (index : ℕ) (us0 us1 us2 : List Val) where
-  open 𝓛 use {H, A}
-
-  abbrev self : MutBor (Pl E).Denot
-  self = record { ref_ptr = (rb, ro); ghost_name = γ; now = d }
-
-  abbrev bound : (walk_of 𝓛 (ended E) (stayed E) (spec E 𝓛)).Ghost
-  bound = (((κ, tt), (q, tt), tt, (self, (start, (index, tt))), (us0, (us1, (us2, tt)))), tt)
-
-  abbrev Post : Val → SProp 𝓤
-  Post = (walk_of 𝓛 (ended E) (stayed E) (spec E 𝓛)).post bound
-
-  abbrev Loan : (Pl E).Denot → List (Item 𝓤) → List (Item 𝓤)
-  Loan new more = ‵ (fobs γ ((Pl E).coded.code new)) ∷ ‵ (fbor κ (Borrowed (mem (Pl E)) rb ro γ)) ∷ ‵ (flft κ q) ∷ more
-
-  leaves : us0 ≡ vptr rb ro ∷ [] → (r : (R E).Denot) (v : Val) (new : (Pl E).Denot) → Answers E d index r → Leaves E d index new → ent 𝓤 (⋆ 𝓛 (Loan new (‵ ((R E).own_val r (v ∷ [])) ∷ []))) (Post v)
-  leaves passed r v new answer left =
-      qed 𝓛 (Loan new (‵ ((R E).own_val r (v ∷ [])) ∷ [])) ∵
-      suffices ! _ (ends_at 𝓛 (ended E) (stayed E) (spec E 𝓛) bound v r (new, (tt, (tt, tt))) (tt, (tt, (tt, tt)))) $ says_two ! answer left $
-      nothing ! $ move ! (3 ∷ 0 ∷ []) $ join ! $ frame ! $ feq_i ! (List Val) us0 (vptr rb ro ∷ []) passed $ fjoin3 ! $
-      nothing ! $ nothing ! $ fjoin ! $ nothing ! $ fjoin ! $ move ! (1 ∷ 0 ∷ []) $ fjoin ! $ done !
-
-  abbrev Had : List (Item 𝓤)
-  Had = Loan d []
-
-  abbrev passes : List Val
-  passes = vptr rb ro ∷ word start.ptr ∷ vint w64 index ∷ []
-
-  walk : us0 ≡ vptr rb ro ∷ [] → Needs E d start index → index < 2 ^ 64 → ent 𝓤 (⋆ 𝓛 Had) (WpFn 𝓤 H C Λ (function E) passes Post)
-  walk passed asked fits =
-      let row = d.row in let x = asked.1.0 in let here = asked.1.1 in let lt = in_row row index x here in let s = size E in
-      let new = with_row d (set row index None) in
-      qed 𝓛 Had ∵ enter ! C Λ (function E) passes _ $ alloc_all ! (λ l. pass_all ! refl ((tt, tt), (word-Good [] start.ptr, ((tt, record { fits = fits }), tt))) $
-      let En : Env 𝓤 H = env (function E).locals l in
-      opens ! tt (Pl E) {h = d} rb ro (λ vs. move ! (1 ∷ []) $ fsplit ! $ move ! (1 ∷ []) $
-      in_a_block ! d.at (λ p. places_owned (R E) p row) (id⊢ 𝓤 (never 𝓤)) (λ b o e. fsplit ! $ flt_l ! (λ short.
-      let narrow : s < 2 ^ 64 = omega (arith, one_below (length row) s (2 ^ 63) (omega arith) short) in
-      let near : index * s < 2 ^ 64 = omega (arith, times_below index (length row) s (2 ^ 63) (omega arith) short) in
-      take_at ! 2 $ rewrite ! 0 (λ (p : Ptr). ‵ (fat full_share (layout (St E)) (l 2) 0 (word p))) (asked.0 ∙ e) refl $ give_at ! 2 $ first ! $ blocks ! $
-      sets ! (bin ! (get ! refl) (size_lit ! (record { fits = narrow })) (record { fits = near })) refl (tt, record { fits = near }) $
-      sets ! (bin ! (get_in ! (fld ! refl (stop !)) (sub ! 0 refl (whole !))) (get ! refl) tt) refl (tt, tt) $
-      use1 𝓛 (‵ (place (R E) b (index * s + o) (get_or row index None)) ⊛ ‵ (others E b o row index)) (place_out E 𝓛 b o row index lt) $ split ! $
-      rewrite ! 0 (λ (p : Place E). ‵ (place (R E) b (index * s + o) p)) here refl $
-      use1 𝓛 (some (λ (v : Val). given (Good (elτ E) v) (‵ (fat full_share (elτ E) b (index * s + o) v) ⊛ ‵ (E.row.own_val x (v ∷ []))))) (value_out E.row E.laws 𝓛 x b (index * s + o)) $
-      pick ! (λ v. learn ! (λ good. split ! $ sets_last ! (of_opd ! (load ! (through ! refl (stop !)) (look ! 0 refl))) refl good $
-      exec ! C Λ En (after 1 (function E).body) (at_ret En Post) $ sets ! (of_opd ! (get ! refl)) refl good $
-      -- the bytes that the value lay in are room again
-      use1 𝓛 (‵ (froom (elτ E) b (index * s + o))) (𝓛.laws.at_room (elτ E) b (index * s + o) v) $ as_raw ! (elτ E) b (index * s + o) $ move ! (0 ∷ 2 ∷ 3 ∷ 4 ∷ 5 ∷ 6 ∷ 7 ∷ []) $
-      use2 𝓛 (‵ (places (R E) b o new.row)) (place_in E 𝓛 b o row index lt None) $
-      flt_i ! (length new.row * s) (2 ^ 63) (subst (λ k. k * s < 2 ^ 63) (sym (length-set row index None)) short) $ fjoin ! $
-      rewrite ! 0 (λ (p : Ptr). ‵ (places_owned (R E) p new.row)) (sym e) refl $ move ! (1 ∷ 0 ∷ []) $ fjoin ! $ move ! (1 ∷ 0 ∷ []) $ closes ! tt (Pl E) new vs rb ro $
-      returns ! (look_at ! 0 refl) $ free_all ! refl $ keep ! (0 ∷ 1 ∷ 2 ∷ 3 ∷ []) $ by ! (leaves passed x v new here (refl, refl))))))))
-
-  entry : Needs E d start index → ent 𝓤 (on_entry 𝓛 (ended E).signature (κ, tt) (q, tt) (self, (start, (index, tt))) (us0, (us1, (us2, tt)))) (WpFn 𝓤 H C Λ (function E) (us0 ++ (us1 ++ (us2 ++ []))) Post)
-  entry asked =
-      qed 𝓛 ((‵ (flft κ q) ⊛ ‵ ftrue) ∷ ‵ (owns (MutRef (named 0) κ (Pl E) ∷ St E ∷ usize ∷ []) (self, (start, (index, tt))) (us0, (us1, (us2, tt)))) ∷ []) ∵
-      split ! $ move ! (2 ∷ []) $ fsplit ! $ fsplit3 ! $ feq_l ! (λ e0. move ! (2 ∷ []) $ fsplit ! $ start_had ! start.ptr us1 (λ e1.
-      fsplit ! $ fsplit ! $ feq_l ! (λ e2. flt_l ! (λ fits. keep ! (1 ∷ 2 ∷ 3 ∷ []) $
-      let all : List Val × List Val × List Val → Type 1 = λ ws. ent 𝓤 (⋆ 𝓛 Had) (WpFn 𝓤 H C Λ (function E) (ws.0 ++ (ws.1 ++ (ws.2 ++ []))) Post) in
-      by ! (subst all (λ j. (sym e0 j, sym e1 j, sym e2 j)) (walk e0 asked fits))))))
-
-meets : (E : El) {M : Type 1} {𝓤 : Ura M} (𝓛 : Logic 𝓤) (𝓣 : Tables 𝓤 𝓛.H) → Meets 𝓛 (ended E).signature (WpFn 𝓤 𝓛.H 𝓣.C 𝓣.Λ (function E)) (closing 𝓛 (ended E) (spec E 𝓛))
-meets E {𝓤 = 𝓤} 𝓛 𝓣 =
-    walk_Meets 𝓛 (ended E) (stayed E)
-    (Goes-ref 𝓛 1 0 tt (plain (λ _. Pl E)), (Goes-dropped 𝓛 1 (plain (λ _. St E)) no (λ _ _ _. refl), (Goes-dropped 𝓛 1 (plain (λ _. usize)) no (λ _ _ _. refl), tt)))
-    (spec E 𝓛) (WpFn 𝓤 𝓛.H 𝓣.C 𝓣.Λ (function E)) (WpFn-mono 𝓤 𝓛.H 𝓛.laws 𝓣 (function E))
-    (λ z. let a = z.0.3 in let vs = z.0.4 in
-    needs 𝓤 (Needs E a.0.now a.1.0 a.1.1.0) _ (entry E 𝓛 𝓣.C 𝓣.Λ z.0.0.0 z.0.1.0 a.0.ref_ptr.0 a.0.ref_ptr.1 a.0.ghost_name a.0.now a.1.0 a.1.1.0 vs.0 vs.1.0 vs.1.1.0))
-
-pub take_spec : {M : Type 1} → stated.statement M
-unfolding tables_of
-take_spec 𝓤 𝓛 𝓜 𝓡 wired X LX y =
+pub take_spec : {M : Type 1} → statement M
+take_spec 𝓤 𝓛 𝓜 𝓡 wired X LX =
     let E : El = record { row = X; laws = LX } in
-    let 𝓣 : Tables 𝓤 𝓛.H = tables_of 𝓤 𝓛.H 𝓜 (tables 𝓤 𝓛.H 𝓜 𝓡 𝓡.env) in
-    let key = #self (args E) in let met = closing 𝓛 (ended E) (spec E 𝓛) in
-    spared 𝓛 (ended E).signature (𝓡.run (𝓡.env key)) (run_framed 𝓤 𝓛.H 𝓜 𝓡 (𝓡.env key)) 1 (X.lives, tt) met
-    (entered 𝓤 𝓛.H (triple_of 𝓛 (ended E).signature met) 𝓣.C 𝓣.Λ key (function E) (code.unfolded 𝓤 𝓛.H 𝓜 𝓡 wired (X, tt)) (meets E 𝓛 𝓣)) ((y.0.0, y.0.1, tt, y.0.3, y.0.4), y.1)
+    let T = contract.ended X in
+    let c = contract.clauses X 𝓛 𝓜.mem 𝓡.returns in
+    let 𝓣 = tables 𝓤 𝓛.H 𝓜 𝓡 𝓡.env in
+    let function = inst_fn (args E) code.function in
+    let of_start = start.lowers (R E) (param_laws 0 X LX) in
+    let behind = plain {n = 2} (λ _. St E) ∷ plain (λ _. usize) ∷ [] in
+    let stay : Stays T.signature.params T.kept = (stay_ref (0 ∷ []) tt (plain (λ _. Pl E)), spent behind (no, (yes, tt))) in
+    proved 𝓛 T stay c 𝓜 𝓡
+    (Goes-ref 𝓛 2 0 tt (plain (λ _. Pl E)), all_go 𝓛 2 behind (no, (yes, tt)) ((λ κs x f. refl), ((λ κs x f. refl), tt)))
+    (name (args E)) function (code.unfolded 𝓤 𝓛.H 𝓜 𝓡 wired (X, tt))
+    (λ κs. (mut_vals, ((λ x. of_start.lowered x ∷ []), (uint_vals w64, tt)))) (λ κs. (mut_Tells (named 0) κs.0 (Pl E), (of_start.val_is, (uint_Tells w64, tt))))
+    (λ κs qs bounds a n are.
+    let κ = κs.0 in let self = a.0 in let d = self.now in let begins = a.1.0 in let index = a.1.1.0 in
+    let W = walk_of 𝓛 T stay c in
+    let y : W.Ghost = ((κs, qs, bounds, a, (mut_vals self, (of_start.lowered begins ∷ [], (uint_vals w64 index, tt)))), n) in
+    let others = toks 𝓛 1 κs.1 qs.1 in
+    qed 𝓛 (((‵ (flft κ qs.0) ⊛ raw others) ⊛ ‵ (owns (MutRef (named 0) κ (Pl E) ∷ St E ∷ usize ∷ []) a y.0.4))
+    ∷ (raw (fact 𝓤 (κs.1.0 ⊑ X.lives)) ⊛ raw (fact 𝓤 ((begins.ptr ≡ d.at) × IsFilled d.row index))) ∷ []) ∵
+    split ! $ split ! $ move ! (3 ∷ []) $ split ! $ drop ! $ heard ! _ (λ asked.
+    -- [the token; the other token; the parameters]
+    move ! (2 ∷ []) $ fsplit3 ! $ fsplit3 ! $ keep ! (1 ∷ 2 ∷ 5 ∷ 6 ∷ []) $
+    let x = asked.1.0 in let stands = asked.1.1 in let there = in_row d.row index x stands in
+    enter ! _ _ _ _ _ $ alloc_all ! (λ l. pass_all ! refl ((tt, tt), (word-Good [] begins.ptr, ((tt, record { fits = are.1.1.0.1 }), tt))) $
+    opens ! tt (Pl E) {h = d} self.ref_ptr.0 self.ref_ptr.1 (λ vs. move ! (1 ∷ []) $ opened E ! d vs index there (λ b o is_at small.
+    let at = index * size E + o in let fit = near index (length d.row) (size E) there small in let as_is = uncapped index (size E) fit in
+    rewrite ! 0 (λ (held : Place E). ‵ (place (R E) b at held)) stands refl $
+    take_at ! 2 $ rewrite ! 0 (λ (p : Ptr). ‵ (fat full_share (layout (St E)) (l 2) 0 (word p))) (asked.0 ∙ is_at) refl $ give_at ! 2 $
+    first ! $ blocks ! $
+    sets ! (is ! (bin ! (get ! refl) (size_word !) (record { fits = rw as_is fit })) (ap (vint w64) as_is)) refl (tt, record { fits = fit }) $
+    sets ! (bin ! (get_in ! (fld ! refl (stop !)) (sub ! 0 refl (whole !))) (get ! refl) tt) refl (tt, tt) $
+    use1 𝓛 (some (λ (v : Val). given (Good (elτ E) v) (‵ (fat full_share (elτ E) b at v) ⊛ ‵ (X.own_val x (v ∷ []))))) (value_out X LX 𝓛 x b at) $ pick ! (λ v. learn ! (λ good. split ! $
+    -- [the value's bytes; the value; the rest of the owner; its cell; the open borrow, in three entries; the other token]
+    sets_last ! (of_opd ! (load ! (through ! refl (stop !)) (look ! 0 refl))) refl good $
+    exec ! 𝓣.C 𝓣.Λ (env function.locals l) (after 1 function.body) (at_ret _ (W.post y)) $
+    sets ! (of_opd ! (get ! refl)) refl good $
+    let new = with_row d (set d.row index None) in
+    use1 𝓛 (‵ (froom (elτ E) b at)) (𝓛.laws.at_room (elτ E) b at v) $ as_raw ! (elτ E) b at $
+    move ! (0 ∷ 2 ∷ []) $ use2 𝓛 (‵ ((Pl E).own_val new vs)) (shut E 𝓛 d vs b o index None is_at there small) $
+    -- [the owner; the value; its cell; the open borrow, in three entries; the other token]
+    move ! (2 ∷ 0 ∷ 3 ∷ 4 ∷ 5 ∷ []) $ closes ! tt (Pl E) new vs self.ref_ptr.0 self.ref_ptr.1 $
+    returns ! (look_at ! 0 refl) $ free_all ! refl $ keep ! (2 ∷ 4 ∷ 0 ∷ 1 ∷ 3 ∷ []) $
+    -- [the token; the other token; two parts of the `&mut`; the value]
+    let ws : Lasts T κs a = (new, (tt, (tt, tt))) in
+    suffices ! _ (leaves 𝓛 T stay c y v x ws (tt, (tt, (tt, tt)))) $ join ! $ frame ! $
+    fjoin ! $ feq_i ! (List Val) (mut_vals self) (mut_vals self) refl $ fjoin ! $
+    use0 𝓛 (‵ (has_of κs behind (no, (yes, tt)) (spent behind (no, (yes, tt))) a.1 ws.1 y.0.4.1)) (nothing_left 𝓛 2 κs behind (no, (yes, tt)) a.1 ws.1 y.0.4.1) $
+    move ! (1 ∷ 0 ∷ []) $ fjoin ! $ frame ! $ frame ! $
+    use0 𝓛 (raw (fact 𝓤 ((new.at ≡ d.at) × (new.row ≡ set d.row index None)))) (fact_i 𝓤 _ (emp 𝓤) (refl, refl)) $
+    use0 𝓛 (raw (fact 𝓤 (get_or d.row index None ≡ Some x))) (fact_i 𝓤 _ (emp 𝓤) stands) $ done !)))))))
