@@ -6,34 +6,29 @@ use mathlib.Core.Path.{◌≡◌, refl, subst}
 use Prim.Native.Nat.{ℕ, zero, suc, ◌+◌, ◌*◌, ◌<◌}
 use native.Mathlib.Omega.{arith}
 use native.Mathlib.Nat.{zero-mul, suc-mul}
-use mathlib.Core.List.{List, [], ◌∷◌, ◌++◌}
+use mathlib.Core.List.{List, [], ◌∷◌}
 use lib.ListN.{length, set, get_or, replicate}
 use seplogic.Ra.Ura.{Ura}
 use base.Fraction.{full_share}
-use mir.Syntax.{Ty, ty_array}
-use mir.Val.{Val, vstruct, vcons, vnil, of_list}
-use base.Logic.{SProp, ent, sep, emp, ex, guard, via, fst∗, snd∗}
+use mir.Syntax.{ty_array}
+use mir.Val.{Val, vstruct, vcons, vnil}
+use base.Logic.{SProp, ent, sep, ex, guard, via, fst∗, snd∗}
 use base.Fml.{Fml, Lft, ftrue, fsep, fat, froom}
 use types.Logic.{Logic, sem}
-use contract.Monad.{fact, fact_i}
-use types.Kit.{Item, Goal, Seq, Step, step, prop, ‵, raw, some, ◌⊛◌, ◌$◌, ◌∵◌, !, qed, by, move, keep, drop, use0, use1, use2, pick, split, check, show, frame, fsplit, fjoin, fpick, fpack, feq_i, feq_l, rewrite, done}
-use denote.RattleType.{RattleType, Valss}
-use denote.Laws.{Typed, Is, shows}
+use types.Kit.{‵, some, ◌⊛◌, ◌$◌, ◌∵◌, !, qed, by, move, keep, use1, use2, pick, split, check, show, frame, fsplit, fjoin, rewrite, done}
+use denote.RattleType.{RattleType}
+use denote.Laws.{Is, shows}
 use denote.Param.{param, layout}
 use denote.Param.Laws.{Laws, param_laws}
 use denote.Memory.{part_at}
-use denote.RawPtr.{Ptr, RawPtr, ptr_val}
-use denote.Shadow.{makes_shadow}
-use denote.Steps.{nothing, peeks}
-use denote.Struct.Struct.{Shape, Struct, within}
+use denote.Steps.{peeks}
+use denote.Struct.Struct.{Struct}
 use denote.Struct.Owning.{shape}
-use denote.Struct.Declared as Declared
-use denote.Struct.Tuple.{Tuple, tuple_type}
 use borrow.Table.OneValue.{part_in, part_out}
 use Rattle.std.specs.Prelude.{Option, Some, None}
 use Rattle.std.specs.Mem.{type_size}
 use Rattle.core.proofs.mem.Param.{El, R, el_x, elτ}
-use Rattle.std_alloc.proofs.RcSteps.{Good, word}
+use Rattle.std_alloc.proofs.RcSteps.{Good}
 use Rattle.item_pool.specs.Ownership.{place, places, place_lent, row_lent}
 use Rattle.item_pool.specs.contracts.places.Places as P
 use Rattle.item_pool.specs.contracts.places.Start as S

@@ -2,38 +2,32 @@
 --     place_out, place_in, place_seen      one place is taken out of the row, put back, or seen
 --     blanked      the value of a place is forgotten
 --     of_room, to_room      room for an array is a row of places
-use mathlib.Core.Path.{◌≡◌, refl, sym, ap, subst, ◌∙◌}
-use Prim.Native.Nat.{ℕ, zero, suc, ◌+◌, ◌*◌, ◌<◌, ◌≤◌}
+use mathlib.Core.Path.{◌≡◌, refl, sym}
+use Prim.Native.Nat.{ℕ, zero, suc, ◌+◌, ◌*◌, ◌<◌}
 use native.Mathlib.Omega.{arith}
 use native.Mathlib.Nat.{zero-mul, suc-mul}
-use mathlib.Core.List.{List, [], ◌∷◌, ◌++◌}
-use lib.ListN.{length, take, drop, set, get_or, replicate, take-append-drop, length-take}
-use lib.Seq.{drop-cons, set_split}
+use mathlib.Core.List.{List, [], ◌∷◌}
+use lib.ListN.{length, set, get_or, replicate}
 use seplogic.Ra.Ura.{Ura}
 use base.Fraction.{full_share}
-use mir.Syntax.{Ty, ty_array}
-use mir.Val.{Val, vstruct, vcons, vnil, of_list}
-use base.Logic.{ent, sep, emp, ex, guard, via, snd∗, id⊢}
+use mir.Syntax.{ty_array}
+use mir.Val.{Val, vstruct, vcons, vnil}
+use base.Logic.{ent, sep, ex, guard}
 use base.Fml.{Fml, Lft, ftrue, fsep, fat, froom}
 use types.Logic.{Logic, sem}
-use types.Kit.{Item, Goal, Seq, Step, step, ‵, some, given, ◌⊛◌, ◌$◌, ◌∵◌, !, qed, by, move, keep, drop as skip, use1, use2, pick, learn, split, check, show, frame, fsplit, fjoin, fpick, fpack, feq_i, feq_l, rewrite, done}
-use denote.RattleType.{RattleType, Valss}
-use denote.Laws.{Typed, Is, shows}
-use denote.Param.{param, layout}
-use denote.Param.Laws.{Laws, param_laws}
+use types.Kit.{‵, some, given, ◌⊛◌, ◌$◌, ◌∵◌, !, qed, by, move, keep, use1, use2, pick, learn, split, check, show, frame, fsplit, fjoin, rewrite, done}
+use denote.RattleType.{RattleType}
+use denote.Laws.{Is, shows}
+use denote.Param.Laws.{param_laws}
 use denote.Memory.{part_at}
-use denote.RawPtr.{Ptr, RawPtr, ptr_val}
-use denote.Shadow.{makes_shadow}
-use denote.Steps.{nothing, peeks}
-use denote.Struct.Struct.{Shape, Struct, within}
+use denote.Steps.{peeks}
+use denote.Struct.Struct.{Struct}
 use denote.Struct.Owning.{shape}
-use denote.Struct.Declared as Declared
-use denote.Struct.Tuple.{Tuple, tuple_type}
 use borrow.Table.OneValue.{part_in, part_out}
 use Rattle.std.specs.Prelude.{Option, Some, None}
 use Rattle.std.specs.Mem.{type_size}
 use Rattle.core.proofs.mem.Param.{El, R, el_x, elτ}
-use Rattle.std_alloc.proofs.RcSteps.{Good, word}
+use Rattle.std_alloc.proofs.RcSteps.{Good}
 use Rattle.item_ring.specs.Memory.{place, places, place_lent, places_lent}
 use Rattle.item_ring.specs.contracts.cells.Cells as C-type
 use Rattle.item_ring.specs.contracts.cells.Link as L-type

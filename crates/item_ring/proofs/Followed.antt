@@ -11,7 +11,7 @@ use seplogic.Ra.Ura.{Ura}
 use base.Fraction.{full_share}
 use mir.Val.{Val}
 use base.Logic.{ent, sep, never, id⊢}
-use base.Fml.{Fml, Lft, fsep, flt, fat, froom}
+use base.Fml.{Fml, Lft, fsep, fat, froom}
 use types.Logic.{Logic, sem}
 use types.Kit.{Item, Goal, Seq, ‵, ◌⊛◌, ◌$◌, ◌∵◌, !, qed, move, drop, use1, use2, split, rewrite, fsplit, fjoin, flt_i, flt_l, done}
 use denote.Memory.{hidden_shr}

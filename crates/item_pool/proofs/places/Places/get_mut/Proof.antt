@@ -1,6 +1,6 @@
 -- `get_mut` opens the `&mut` to the owner at the filled place and lends the value that is there. What is kept of the owner says how it comes back:
 -- with whatever the value is at last, in that place. Assumes `Logic`.
-use Rattle.item_pool.proofs.Steps.{◌≡◌, refl, ap, sym, subst, ◌∙◌, ℕ, ◌+◌, ◌*◌, ◌<◌, ◌^◌, List, [], ◌∷◌, length, w64, Val, vunit, emp, ent, sep, fact_i, flft, fact, ◌⊑◌, tables, toks, ‵, raw, ◌⊛◌, at_ret, ◌$◌, ◌∵◌, !, qed, by, move, keep, drop, use0, use3, split, join, fsplit, fsplit3, fjoin, feq_i, frame, suffices, whole, sub, stop, fld, init, of_opd, unit_lit, assigns_last, through, first, blocks, exec, returns, enter, alloc_all, pass_all, free_all, look_at, get, get_in, is, sets, env, heard, opens, closes, proved_at, leaves, mut_vals, mut_Tells, uint_vals, uint_Tells, named, yes, no, owns, flat, types_at, Vals, Lasts, MutBor, MutRef, usize, plain, on_entry, WpFn, Stays, stay_ref, Goes-ref, walk_of, El, R, inst_fn, ptr_val, ◌+ₚ◌, after, word-Good, size, St, Pl, spent, all_go, nothing_left, has_of, near, opened, shut, with_row, place, Place, set, get_or, None, Some, value_in, fat, froom, full_share, layout, elτ, Ptr, block_ptr, word, size_word, bin, uncapped, vint, take_at, give_at, rewrite, use1, use2, done, as_written, param_laws, proved, some, given, pick, learn, load, look, sets_last, as_raw, value_out, in_row, IsFilled, Good, Spent, hands_out, Kept, comes_back, follows, Part, lends_Part, later, await, group, GName, addr, vptr, id⊢}
+use Rattle.item_pool.proofs.Steps.{◌≡◌, refl, ap, ◌∙◌, ◌+◌, ◌*◌, [], ◌∷◌, length, w64, emp, fact_i, flft, fact, ◌⊑◌, tables, toks, ‵, raw, ◌⊛◌, at_ret, ◌$◌, ◌∵◌, !, qed, by, move, keep, drop, split, join, fsplit3, fjoin, frame, suffices, whole, sub, stop, fld, of_opd, through, first, blocks, exec, returns, enter, alloc_all, pass_all, free_all, look_at, get, get_in, is, sets, env, heard, opens, mut_vals, mut_Tells, uint_vals, uint_Tells, named, owns, MutBor, MutRef, usize, walk_of, El, R, inst_fn, after, word-Good, size, St, Pl, all_go, near, opened, with_row, place, Place, set, Some, fat, full_share, layout, Ptr, word, size_word, bin, uncapped, vint, take_at, give_at, rewrite, use1, param_laws, proved, some, pick, sets_last, in_row, IsFilled, Spent, hands_out, Kept, comes_back, follows, Part, lends_Part, later, await, group, GName, addr, vptr, id⊢}
 use types.Logic.{sem}
 use Rattle.core.proofs.mem.Param.{args}
 use Rattle.item_pool.specs.contracts.places.Places.get_mut as contract
