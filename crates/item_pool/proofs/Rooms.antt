@@ -146,7 +146,7 @@ pub refused : (E : El) (Z : Al) {M : Type 1} {𝓤 : Ura M} (𝓛 : Logic 𝓤) 
 refused E Z 𝓛 = qed 𝓛 [] ∵ use0 𝓛 (‵ (AE.the_row.own_val (record {}) (none ∷ []))) (refusal 𝓛) $ by ! (err_of 𝓛 (Three E Z) AE.the_row (record {}) none)
 
 module _ (E : El) (Z : Al) where
-  -- the empty places of the owner c and the deed d are of the one block of n places at p, from the allocator a
+  -- the owner c, all of whose places are empty, and the deed d are of the one block of n places at p, from the allocator a
   abbrev pub OfOne : (Pl E).Denot → (De E Z).Denot → Ptr → ℕ → Z.row.Denot → Type 0
   OfOne c d p n a = (c.at ≡ p) × (c.row ≡ replicate n None) × (d.at ≡ p) × (d.len ≡ n) × (d.alloc ≡ a)
 

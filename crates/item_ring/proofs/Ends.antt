@@ -1,6 +1,6 @@
 -- How the walk of a function ends whose parameters are used up. Assumes `Logic`.
 --     spent        says of each parameter that nothing is had of it at the return
---     Silent, all_go      the law that this asks of each parameter: its type says nothing at the exit
+--     AllSilent, all_go      the law that this asks of each parameter: its type says nothing at the exit
 --     returned     what a walk still needs at the return: the result, the tokens of the lifetimes, and what is promised of the result
 --     then_on      what the end of a match's arm leads to: the code behind the match
 use Prim.Native.Nat.{ℕ}
