@@ -13,8 +13,9 @@
 //! An item has the slot that its value was put into, as a hint: where the hint is right, a look goes to the cell in one
 //! step, and else by way of the table. No answer depends on it.
 //!
-//! A cell has 8 bytes beside its `Option<T>`, and the table some 22 bytes for each value that it has room for, which is
-//! doubled where it has to grow. Memory goes back when the pool is dropped, and its live values are dropped with it.
+//! A cell has 8 bytes beside its `Option<T>`, and there are at most twice as many as values lived at once, and 64. The
+//! table has some 22 bytes for each value that it has room for, which is doubled where it has to grow. Memory goes back
+//! when the pool is dropped, and its live values are dropped with it.
 #![tactic(auto)]
 
 mod block;
