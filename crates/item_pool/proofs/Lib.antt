@@ -1,9 +1,10 @@
+pub mod AtHome
 pub mod Blocks
 pub mod Chains
 pub mod Ends
 pub mod Joins
-pub mod Opened
 pub mod Lending
+pub mod Opened
 pub mod PoolSteps
 pub mod Rooms
 pub mod Rows

@@ -1,13 +1,13 @@
 -- That each step leaves a pool as it has to be, from its fields before, p, and after, q.
-use Rattle.std.proofs.Common.{◌≡◌, ℕ, zero, suc, List, [], ◌∷◌, ◌++◌, ◌+◌, ◌-◌, ◌<◌, ◌≤◌, ◌≢◌, ◌^◌, Option, Some, None, nat_eq, length, set, refl, sym, ap, ◌∙◌, subst, arith, length-set, length-append, ⊎_elim}
+use Rattle.std.proofs.Common.{◌≡◌, ℕ, zero, suc, List, [], ◌∷◌, ◌++◌, ◌+◌, ◌-◌, ◌<◌, ◌≤◌, ◌≢◌, ◌^◌, Option, Some, None, length, set, refl, sym, ap, ◌∙◌, subst, arith, length-set, length-append, ⊎_elim}
 use Rattle.std.proofs.lemmas.Bool.{cases_lt}
 use Rattle.std.specs.Ordering.{nat_cmp}
 use Rattle.item_pool.proofs.Seen.{live_append}
-use Rattle.std.specs.HashMap.{get}
 use Rattle.std.specs.FinMap as map
 use Rattle.item_pool.specs.declared.block.Cell.{Cell}
 use Rattle.item_pool.specs.declared.pool.Pool.TheInside.{Inside}
 use Rattle.item_pool.specs.CellsKept.{cell_at, live_of, IsFree, IsTable, IsChain, IsGrown}
+use Rattle.item_pool.specs.Table.{slot_of}
 use Rattle.item_pool.specs.Chained.{blank, chained}
 use Rattle.item_pool.proofs.Blocks.{length-chained, chained_value, chained_number, chained_link, chained_last}
 use Rattle.item_pool.proofs.Joins.{at_left, at_right}
@@ -17,14 +17,11 @@ use Rattle.item_pool.proofs.Seen.{seen_some, seen_new, live_insert, live_remove,
 use Rattle.item_pool.proofs.Tables.{table_put, table_take, table_write, table_grow}
 
 module _ {X : Type 0} where
-  abbrev slot_of : Inside X → ℕ → Option ℕ
-  slot_of p = get nat_eq p.slots
-
   -- a value comes in
   module _ (p q : Inside X) (is : IsPool p) (y : X) (pos : 0 < p.free) (room : p.made < 16777215)
       (cells : q.cells ≡ set p.cells p.first (record { number = p.made + 1; link = (cell_at p.cells p.first).link; value = Some y }))
       (first : q.first ≡ (cell_at p.cells p.first).link) (free : q.free ≡ p.free - 1) (live : q.live ≡ p.live + 1) (made : q.made ≡ p.made + 1)
-      (here : slot_of q (p.made + 1) ≡ Some p.first) (others : (s : ℕ) → s ≢ p.made + 1 → slot_of q s ≡ slot_of p s) where
+      (here : slot_of q.table (p.made + 1) ≡ Some p.first) (others : (s : ℕ) → s ≢ p.made + 1 → slot_of q.table s ≡ slot_of p.table s) where
     abbrev new : Cell X
     new = record { number = p.made + 1; link = (cell_at p.cells p.first).link; value = Some y }
 
@@ -40,33 +37,33 @@ module _ {X : Type 0} where
     long : length q.cells ≡ length p.cells
     long = ap length cells ∙ length-set p.cells p.first new
 
-    table : IsTable (cell_at q.cells) (slot_of q) (p.made + 1)
-    table = table_put (cell_at p.cells) (cell_at q.cells) p.first same (slot_of p) (slot_of q) p.made is.table (p.made + 1) y refl top.2 (ap (λ c. c.number) at, ap (λ c. c.value) at) here others
+    table : IsTable (cell_at q.cells) (slot_of q.table) (p.made + 1)
+    table = table_put (cell_at p.cells) (cell_at q.cells) p.first same (slot_of p.table) (slot_of q.table) p.made is.table (p.made + 1) y refl top.2 (ap (λ c. c.number) at, ap (λ c. c.value) at) here others
 
     chain : IsChain (cell_at q.cells) (length p.cells) (cell_at p.cells p.first).link (p.free - 1)
     chain = chain_pop (cell_at p.cells) (cell_at q.cells) (length p.cells) p.first same y (ap (λ c. c.value) at) p.free pos is.chain
 
-    off : (s i : ℕ) → s ≢ p.made + 1 → slot_of p s ≡ Some i → i ≢ p.first
+    off : (s i : ℕ) → s ≢ p.made + 1 → slot_of p.table s ≡ Some i → i ≢ p.first
     off s i ne e is_first = let f = is.table.found s i e in let twice : None ≡ Some f.0 = sym top.2 ∙ ap (λ j. (cell_at p.cells j).value) (sym is_first) ∙ f.1.1 in cc
 
     pub insert_live : live_of q.cells ≡ map.insert (live_of p.cells) (p.made + 1) y
-    insert_live = live_insert p.cells q.cells p.first same (slot_of p) (slot_of q) p.made (p.made + 1) is.table table (p.made + 1) others off y here (ap (λ c. c.value) at)
+    insert_live = live_insert p.cells q.cells p.first same (slot_of p.table) (slot_of q.table) p.made (p.made + 1) is.table table (p.made + 1) others off y here (ap (λ c. c.value) at)
 
     pub insert_pool : IsPool q
     insert_pool = record {
-      table = subst (λ m. IsTable (cell_at q.cells) (slot_of q) m) (sym made) table;
+      table = subst (λ m. IsTable (cell_at q.cells) (slot_of q.table) m) (sym made) table;
       chain = subst (λ n. IsChain (cell_at q.cells) n q.first q.free) (sym long) (subst (λ f. IsChain (cell_at q.cells) (length p.cells) f q.free) (sym first) (subst (λ f. IsChain (cell_at q.cells) (length p.cells) (cell_at p.cells p.first).link f) (sym free) chain));
-      counted = live ∙ ap (λ n. n + 1) is.counted ∙ sym (ap map.len insert_live ∙ len_insert (live_of p.cells) (p.made + 1) y (seen_new p.cells (slot_of p) p.made is.table (p.made + 1) refl));
+      counted = live ∙ ap (λ n. n + 1) is.counted ∙ sym (ap map.len insert_live ∙ len_insert (live_of p.cells) (p.made + 1) y (seen_new p.cells (slot_of p.table) p.made is.table (p.made + 1) refl));
       total = let t : p.free + p.live ≡ length p.cells = is.total in omega (arith, long);
       few = (let low : p.live ≤ p.made = is.few.0 in omega arith, omega arith);
       short = let s : length p.cells < 2 ^ 27 = is.short in subst (λ n. n < 2 ^ 27) (sym long) s;
     }
 
   -- a value goes out
-  module _ (p q : Inside X) (is : IsPool p) (s slot : ℕ) (x : X) (at_slot : slot_of p s ≡ Some slot) (value : (cell_at p.cells slot).value ≡ Some x) (within : slot < length p.cells)
+  module _ (p q : Inside X) (is : IsPool p) (s slot : ℕ) (x : X) (at_slot : slot_of p.table s ≡ Some slot) (value : (cell_at p.cells slot).value ≡ Some x) (within : slot < length p.cells)
       (cells : q.cells ≡ set p.cells slot (record { number = p.free + 1; link = p.first; value = None }))
       (first : q.first ≡ slot) (free : q.free ≡ p.free + 1) (live : q.live ≡ p.live - 1) (made : q.made ≡ p.made)
-      (here : slot_of q s ≡ None) (others : (r : ℕ) → r ≢ s → slot_of q r ≡ slot_of p r) where
+      (here : slot_of q.table s ≡ None) (others : (r : ℕ) → r ≢ s → slot_of q.table r ≡ slot_of p.table r) where
     abbrev left : Cell X
     left = record { number = p.free + 1; link = p.first; value = None }
 
@@ -82,27 +79,27 @@ module _ {X : Type 0} where
     number : (cell_at p.cells slot).number ≡ s
     number = let f = is.table.found s slot at_slot in f.1.0
 
-    table_left : IsTable (cell_at q.cells) (slot_of q) p.made
-    table_left = table_take (cell_at p.cells) (cell_at q.cells) slot alike (slot_of p) (slot_of q) p.made is.table s x (number, value) (ap (λ c. c.value) gone_at) here others
+    table_left : IsTable (cell_at q.cells) (slot_of q.table) p.made
+    table_left = table_take (cell_at p.cells) (cell_at q.cells) slot alike (slot_of p.table) (slot_of q.table) p.made is.table s x (number, value) (ap (λ c. c.value) gone_at) here others
 
     chain_left : IsChain (cell_at q.cells) (length p.cells) slot (p.free + 1)
     chain_left = chain_push (cell_at p.cells) (cell_at q.cells) (length p.cells) slot alike x value within p.first p.free (ap (λ c. c.number) gone_at) (ap (λ c. c.link) gone_at) (ap (λ c. c.value) gone_at) is.chain
 
-    apart : (r i : ℕ) → r ≢ s → slot_of p r ≡ Some i → i ≢ slot
+    apart : (r i : ℕ) → r ≢ s → slot_of p.table r ≡ Some i → i ≢ slot
     apart r i ne e is_slot = let f = is.table.found r i e in ne (sym f.1.0 ∙ ap (λ j. (cell_at p.cells j).number) is_slot ∙ number)
 
     pub remove_live : live_of q.cells ≡ map.remove (live_of p.cells) s
-    remove_live = live_remove p.cells q.cells slot alike (slot_of p) (slot_of q) p.made p.made is.table table_left s others apart here
+    remove_live = live_remove p.cells q.cells slot alike (slot_of p.table) (slot_of q.table) p.made p.made is.table table_left s others apart here
 
     pub held : map.get (live_of p.cells) s ≡ Some x
-    held = seen_some p.cells (slot_of p) p.made is.table s slot at_slot ∙ value
+    held = seen_some p.cells (slot_of p.table) p.made is.table s slot at_slot ∙ value
 
     fewer : map.len (live_of q.cells) + 1 ≡ map.len (live_of p.cells)
     fewer = ap (λ m. map.len m + 1) remove_live ∙ len_remove (live_of p.cells) s x held
 
     pub remove_pool : IsPool q
     remove_pool = record {
-      table = subst (λ m. IsTable (cell_at q.cells) (slot_of q) m) (sym made) table_left;
+      table = subst (λ m. IsTable (cell_at q.cells) (slot_of q.table) m) (sym made) table_left;
       chain = subst (λ n. IsChain (cell_at q.cells) n q.first q.free) (sym length_is) (subst (λ f. IsChain (cell_at q.cells) (length p.cells) f q.free) (sym first) (subst (λ f. IsChain (cell_at q.cells) (length p.cells) slot f) (sym free) chain_left));
       counted = let c : p.live ≡ map.len (live_of p.cells) = is.counted in omega (arith, fewer);
       total = let c : p.live ≡ map.len (live_of p.cells) = is.counted in let t : p.free + p.live ≡ length p.cells = is.total in omega (arith, fewer, length_is);
@@ -111,9 +108,9 @@ module _ {X : Type 0} where
     }
 
   -- a value is written to
-  module _ (p q : Inside X) (is : IsPool p) (s slot : ℕ) (x y : X) (at_slot : slot_of p s ≡ Some slot) (value : (cell_at p.cells slot).value ≡ Some x) (within : slot < length p.cells)
+  module _ (p q : Inside X) (is : IsPool p) (s slot : ℕ) (x y : X) (at_slot : slot_of p.table s ≡ Some slot) (value : (cell_at p.cells slot).value ≡ Some x) (within : slot < length p.cells)
       (cells : q.cells ≡ set p.cells slot (record { number = (cell_at p.cells slot).number; link = (cell_at p.cells slot).link; value = Some y }))
-      (slots : q.slots ≡ p.slots) (first : q.first ≡ p.first) (free : q.free ≡ p.free) (live : q.live ≡ p.live) (made : q.made ≡ p.made) where
+      (table_is : q.table ≡ p.table) (first : q.first ≡ p.first) (free : q.free ≡ p.free) (live : q.live ≡ p.live) (made : q.made ≡ p.made) where
     abbrev written : Cell X
     written = record { number = (cell_at p.cells slot).number; link = (cell_at p.cells slot).link; value = Some y }
 
@@ -129,24 +126,24 @@ module _ {X : Type 0} where
     serial : (cell_at p.cells slot).number ≡ s
     serial = let f = is.table.found s slot at_slot in f.1.0
 
-    table_kept : IsTable (cell_at q.cells) (slot_of p) p.made
-    table_kept = table_write (cell_at p.cells) (cell_at q.cells) slot rest (slot_of p) (slot_of p) p.made is.table s x y (serial, value) (ap (λ c. c.number) there ∙ serial, ap (λ c. c.value) there)
+    table_kept : IsTable (cell_at q.cells) (slot_of p.table) p.made
+    table_kept = table_write (cell_at p.cells) (cell_at q.cells) slot rest (slot_of p.table) (slot_of p.table) p.made is.table s x y (serial, value) (ap (λ c. c.number) there ∙ serial, ap (λ c. c.value) there)
 
     chain_kept : IsChain (cell_at q.cells) (length p.cells) p.first p.free
     chain_kept = chain_write (cell_at p.cells) (cell_at q.cells) (length p.cells) slot rest x y value (ap (λ c. c.value) there) p.first p.free is.chain
 
-    off_slot : (r i : ℕ) → r ≢ s → slot_of p r ≡ Some i → i ≢ slot
+    off_slot : (r i : ℕ) → r ≢ s → slot_of p.table r ≡ Some i → i ≢ slot
     off_slot r i ne e is_slot = let f = is.table.found r i e in ne (sym f.1.0 ∙ ap (λ j. (cell_at p.cells j).number) is_slot ∙ serial)
 
     pub write_live : live_of q.cells ≡ map.insert (live_of p.cells) s y
-    write_live = live_insert p.cells q.cells slot rest (slot_of p) (slot_of p) p.made p.made is.table table_kept s (λ _ _. refl) off_slot y at_slot (ap (λ c. c.value) there)
+    write_live = live_insert p.cells q.cells slot rest (slot_of p.table) (slot_of p.table) p.made p.made is.table table_kept s (λ _ _. refl) off_slot y at_slot (ap (λ c. c.value) there)
 
     as_many : map.len (live_of q.cells) ≡ map.len (live_of p.cells)
-    as_many = ap map.len write_live ∙ len_same (live_of p.cells) s x y (seen_some p.cells (slot_of p) p.made is.table s slot at_slot ∙ value)
+    as_many = ap map.len write_live ∙ len_same (live_of p.cells) s x y (seen_some p.cells (slot_of p.table) p.made is.table s slot at_slot ∙ value)
 
     pub write_pool : IsPool q
     write_pool = record {
-      table = subst (λ t. IsTable (cell_at q.cells) (get nat_eq t) q.made) (sym slots) (subst (λ m. IsTable (cell_at q.cells) (slot_of p) m) (sym made) table_kept);
+      table = subst (λ t. IsTable (cell_at q.cells) (slot_of t) q.made) (sym table_is) (subst (λ m. IsTable (cell_at q.cells) (slot_of p.table) m) (sym made) table_kept);
       chain = subst (λ n. IsChain (cell_at q.cells) n q.first q.free) (sym as_long) (subst (λ f. IsChain (cell_at q.cells) (length p.cells) f q.free) (sym first) (subst (λ f. IsChain (cell_at q.cells) (length p.cells) p.first f) (sym free) chain_kept));
       counted = live ∙ is.counted ∙ sym as_many;
       total = let t : p.free + p.live ≡ length p.cells = is.total in omega (arith, as_long);
@@ -165,12 +162,12 @@ module _ {X : Type 0} where
   past_end (c ∷ cells) (suc i) h = past_end cells i (omega arith)
 
   -- where a serial is live, there is a live value
-  pub some_live : (p : Inside X) → IsPool p → (s i : ℕ) → slot_of p s ≡ Some i → 1 ≤ p.live
+  pub some_live : (p : Inside X) → IsPool p → (s i : ℕ) → slot_of p.table s ≡ Some i → 1 ≤ p.live
   some_live p is s i e = let f = is.table.found s i e in
-      omega (arith, is.counted, len_remove (live_of p.cells) s f.0 (seen_some p.cells (slot_of p) p.made is.table s i e ∙ f.1.1))
+      omega (arith, is.counted, len_remove (live_of p.cells) s f.0 (seen_some p.cells (slot_of p.table) p.made is.table s i e ∙ f.1.1))
 
   -- there are no cells
-  module _ (q : Inside X) (cells : q.cells ≡ []) (slots : (s : ℕ) → slot_of q s ≡ None) (free : q.free ≡ 0) (live : q.live ≡ 0) (made : q.made ≡ 0) where
+  module _ (q : Inside X) (cells : q.cells ≡ []) (slots : (s : ℕ) → slot_of q.table s ≡ None) (free : q.free ≡ 0) (live : q.live ≡ 0) (made : q.made ≡ 0) where
     none : (i : ℕ) → (cell_at q.cells i).value ≡ None
     none i = ap (λ l. (cell_at l i).value) cells
 
@@ -238,11 +235,11 @@ module _ {X : Type 0} where
 
   -- there is more room
   module _ (p q : Inside X) (is : IsPool p) (grown : IsGrown p.cells q.cells) (chain : IsChain (cell_at q.cells) (length q.cells) q.first q.free) (total : q.free + p.live ≡ length q.cells)
-      (short : length q.cells < 2 ^ 27) (slots : (s : ℕ) → slot_of q s ≡ slot_of p s) (live : q.live ≡ p.live) (made : q.made ≡ p.made) where
-    table_old : IsTable (cell_at q.cells) (slot_of p) p.made
-    table_old = table_grow (cell_at p.cells) (cell_at q.cells) (length p.cells) grown.old (past_end p.cells) grown.new (slot_of p) p.made is.table
+      (short : length q.cells < 2 ^ 27) (slots : (s : ℕ) → slot_of q.table s ≡ slot_of p.table s) (live : q.live ≡ p.live) (made : q.made ≡ p.made) where
+    table_old : IsTable (cell_at q.cells) (slot_of p.table) p.made
+    table_old = table_grow (cell_at p.cells) (cell_at q.cells) (length p.cells) grown.old (past_end p.cells) grown.new (slot_of p.table) p.made is.table
 
-    table_new : IsTable (cell_at q.cells) (slot_of q) p.made
+    table_new : IsTable (cell_at q.cells) (slot_of q.table) p.made
     table_new = record {
       found = λ s i e. table_old.found s i (sym (slots s) ∙ e);
       listed = λ i s x l. slots s ∙ table_old.listed i s x l;
@@ -251,7 +248,7 @@ module _ {X : Type 0} where
 
     pub grow_pool : IsPool q
     grow_pool = record {
-      table = subst (λ m. IsTable (cell_at q.cells) (slot_of q) m) (sym made) table_new;
+      table = subst (λ m. IsTable (cell_at q.cells) (slot_of q.table) m) (sym made) table_new;
       chain = chain;
       counted = live ∙ is.counted ∙ sym (ap map.len grown.live);
       total = omega arith;

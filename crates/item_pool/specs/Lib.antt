@@ -4,9 +4,12 @@ pub mod CellsLent
 pub mod Chained
 pub mod Contents
 pub mod Filled
+pub mod Homes
 pub mod IsBlock
 pub mod IsPool
 pub mod Joined
+pub mod Lookups
 pub mod Ownership
 pub mod PlaceLent
+pub mod Table
 pub mod ValueLent

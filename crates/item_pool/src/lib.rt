@@ -20,8 +20,10 @@
 
 mod block;
 mod cells;
+mod homes;
 mod places;
 mod pool;
+mod table;
 #[cfg(test)]
 mod tests;
 
@@ -30,5 +32,9 @@ pub use block::{Block, Cell};
 #[doc(hidden)]
 pub use cells::Cells;
 #[doc(hidden)]
+pub use homes::{Home, Homes};
+#[doc(hidden)]
 pub use places::{Deed, Places, Start};
 pub use pool::{Gone, InsertRefusal, Item, MOST_SERIALS, Pool, ReserveRefusal};
+#[doc(hidden)]
+pub use table::Table;

@@ -1,15 +1,15 @@
 //! The pool: cells of live values, a chain of free cells, and a table from serials to slots.
-ghost use Rattle.std.specs.Prelude.{◌≡◌, ℕ, ◌+◌, ◌*◌, ◌<◌, ◌≤◌, ◌^◌, get_or, slice_set, length, nat_eq, Some, None, OnOk, OnErr, IfOk, IfErr, MatchResult, IsOk, IsSome};
+ghost use Rattle.std.specs.Prelude.{◌≡◌, ℕ, ◌+◌, ◌*◌, ◌<◌, ◌≤◌, ◌^◌, get_or, slice_set, length, Some, None, OnOk, OnErr, IfOk, IfErr, MatchResult, IsOk, IsSome};
 ghost use Rattle.std.specs.Borrow.{sem};
-ghost use Rattle.std.specs.HashMap.{get};
 ghost use Rattle.std.specs.FinMap as map;
 ghost use Rattle.item_pool.specs.Chained.{blank};
 ghost use Rattle.item_pool.specs.CellsKept.{cell_at, IsChain, IsLive, IsGrown};
+ghost use Rattle.item_pool.specs.Table.{slot_of};
 ghost use Rattle.item_pool.specs.Contents.{contents, IsAsBefore, IsWithin, Holds, HasLive, Lacks, Inserts, Refuses, Removes, WhyGone};
 
 use crate::cells::{Cells, FIRST_BLOCK};
+use crate::table::Table;
 use std::alloc::Global;
-use std::collections::HashMap;
 use std::marker::Model;
 use std::mem;
 
@@ -59,7 +59,7 @@ pub enum ReserveRefusal {
 pub struct Pool<T> {
     cells: Cells<T>,
     /// The slot of each live value, by its serial.
-    slots: HashMap<u32, u32>,
+    table: Table,
     /// The slot that the chain of free cells starts at, where there are any.
     first: u32,
     free: u32,
@@ -75,21 +75,21 @@ impl<T> Model for Pool<T> {
     ghost coded = { contents_code T.code };
 
     ghost use Rattle.std.specs.Prelude.{min};
-    ghost use Rattle.std.specs.HashMap.{spare};
+    ghost use Rattle.item_pool.specs.Table.{spare_of};
     ghost use Rattle.item_pool.specs.CellsKept.{live_of};
     ghost use Rattle.item_pool.specs.IsPool.{IsPool};
 
-    ghost view = { λ p. contents (live_of p.cells) p.made (min p.free (spare p.slots)) };
+    ghost view = { λ p. contents (live_of p.cells) p.made (min p.free (spare_of p.table)) };
 
     ghost invariant = { λ p. IsPool p };
 }
 
 /// The slot of a live value. Where the item's slot is the right one, the table isn't asked.
 #[inline]
-fn find<T>(cells: &Cells<T>, slots: &HashMap<u32, u32>, len: u32, it: Item) -> Option<u32>
+fn find<T>(cells: &Cells<T>, table: &Table, len: u32, it: Item) -> Option<u32>
     requires len { len ≡ length cells.now }
-    requires listed { (i s : ℕ) (x : T) → IsLive (cell_at cells.now) i s x → get nat_eq slots.now s ≡ Some i }
-    ensures { result ≡ get nat_eq slots.now it.serial }
+    requires listed { (i s : ℕ) (x : T) → IsLive (cell_at cells.now) i s x → slot_of table.now s ≡ Some i }
+    ensures { result ≡ slot_of table.now it.serial }
 {
     if it.slot < len {
         let cell = cells.get(it.slot);
@@ -97,7 +97,7 @@ fn find<T>(cells: &Cells<T>, slots: &HashMap<u32, u32>, len: u32, it: Item) -> O
             return Some(it.slot);
         }
     }
-    slots.get(&it.serial).copied()
+    table.get(it.serial)
 }
 
 /// Why no value has the serial, where none has.
@@ -182,7 +182,7 @@ impl<T> Pool<T> {
     {
         Pool {
             cells: Cells::new(alloc),
-            slots: HashMap::new(alloc),
+            table: Table::new(alloc),
             first: 0,
             free: 0,
             live: 0,
@@ -202,16 +202,17 @@ impl<T> Pool<T> {
         ensures ok { OnOk result (n ≤ self.new.spare) }
         ensures succeeds { n ≤ self.old.spare → IsOk result }
     {
-        if self.slots.reserve(n as usize).is_err() {
-            return Err(ReserveRefusal::NoMemory);
-        }
         add_cells(
             &mut self.cells,
             &mut self.first,
             &mut self.free,
             self.live,
             n,
-        )
+        )?;
+        match self.table.reserve(n, self.free + self.live) {
+            Ok(()) => Ok(()),
+            Err(_) => Err(ReserveRefusal::NoMemory),
+        }
     }
 
     /// Takes a value in under the next serial.
@@ -242,10 +243,7 @@ impl<T> Pool<T> {
         let slot = self.first;
         let serial = self.made + 1;
         let next = occupy(&mut self.cells, slot, serial, value);
-        match self.slots.insert(serial, slot) {
-            Ok(_) => {}
-            Err(_) => unreachable!(),
-        }
+        self.table.insert(serial, slot);
         self.first = next;
         self.free -= 1;
         self.live += 1;
@@ -262,7 +260,7 @@ impl<T> Pool<T> {
     pub fn get(&self, it: Item) -> Result<&T, Gone>
         ensures { MatchResult result (λ v. Holds self.now it.serial v.now) (λ why. Lacks self.now it.serial why) }
     {
-        match find(&self.cells, &self.slots, self.free + self.live, it) {
+        match find(&self.cells, &self.table, self.free + self.live, it) {
             Some(slot) => match self.cells.get(slot).value.as_ref() {
                 Some(value) => Ok(value),
                 None => unreachable!(),
@@ -281,7 +279,7 @@ impl<T> Pool<T> {
         ensures* writes_back { sem 𝓛 (lends_value T.row self.entry it.serial result) }
         ensures value { MatchResult result (λ v. Holds self.old it.serial v.now) (λ why. Lacks self.old it.serial why) }
     {
-        match find(&self.cells, &self.slots, self.free + self.live, it) {
+        match find(&self.cells, &self.table, self.free + self.live, it) {
             Some(slot) => {
                 let cell = self.cells.get_mut(slot);
                 match cell.value.as_mut() {
@@ -301,10 +299,10 @@ impl<T> Pool<T> {
     pub fn remove(&mut self, it: Item) -> Result<T, Gone>
         ensures { MatchResult result (λ v. Removes self.old self.new it.serial v) (λ why. Lacks self.old it.serial why × (self.new ≡ self.old)) }
     {
-        match find(&self.cells, &self.slots, self.free + self.live, it) {
+        match find(&self.cells, &self.table, self.free + self.live, it) {
             Some(slot) => {
                 let value = vacate(&mut self.cells, slot, self.free + 1, self.first);
-                let _slot = self.slots.remove(&it.serial);
+                self.table.remove(it.serial);
                 self.first = slot;
                 self.free += 1;
                 self.live -= 1;
@@ -322,11 +320,8 @@ impl<T> Pool<T> {
     pub fn item(&self, serial: u32) -> Result<Item, Gone>
         ensures { MatchResult result (λ it. (it.serial ≡ serial) × HasLive self.now serial) (λ why. Lacks self.now serial why) }
     {
-        match self.slots.get(&serial) {
-            Some(slot) => Ok(Item {
-                slot: *slot,
-                serial,
-            }),
+        match self.table.get(serial) {
+            Some(slot) => Ok(Item { slot, serial }),
             None => Err(why_gone(self.made, serial)),
         }
     }
@@ -354,9 +349,9 @@ impl<T> Pool<T> {
     pub fn spare(&self) -> u32
         ensures { result ≡ self.now.spare }
     {
-        let slots = self.slots.capacity() - self.slots.len();
-        if slots < self.free as usize {
-            slots as u32
+        let entries = self.table.spare();
+        if entries < self.free as usize {
+            entries as u32
         } else {
             self.free
         }

@@ -1,12 +1,12 @@
-use Rattle.std.proofs.Common.{◌≡◌, nat_eq, Some, None, sym, ap, ◌∙◌, subst}
-use Rattle.std.specs.HashMap.{get}
+use Rattle.std.proofs.Common.{◌≡◌, Some, None, sym, ap, ◌∙◌, subst}
+use Rattle.item_pool.specs.Table.{slot_of}
 use Rattle.item_pool.specs.Contents.{Contents, Holds, Lacks}
 use Rattle.item_pool.proofs.Seen.{seen_none, seen_some}
 use Rattle.item_pool.proofs.pool.Pool.get.Goals as goal
 
 pub returns-in-Some-as_ref : goal.returns-in-Some-as_ref
 returns-in-Some-as_ref g c =
-    let p = c.self.inside in let t = get nat_eq p.slots in let s = c.args.it.serial in let i = c.in-Some.slot in
+    let p = c.self.inside in let t = slot_of p.table in let s = c.args.it.serial in let i = c.in-Some.slot in
     let e : t s ≡ Some i = sym c.in-Some.ensures in let low = c.self.invariant.table.given s i e in
     let x = c.in-Some-as_ref.value.now in
     subst (λ (o : Contents g.row.T.Denot). Holds o s x) c.self.view_is
@@ -14,6 +14,6 @@ returns-in-Some-as_ref g c =
 
 pub returns-in-None : goal.returns-in-None
 returns-in-None g c =
-    let p = c.self.inside in let t = get nat_eq p.slots in let s = c.args.it.serial in
+    let p = c.self.inside in let t = slot_of p.table in let s = c.args.it.serial in
     let e : t s ≡ None = sym c.in-None.ensures in
     subst (λ (o : Contents g.row.T.Denot). Lacks o s c.why_gone.result) c.self.view_is (seen_none p.cells t p.made c.self.invariant.table s e, c.why_gone.ensures)

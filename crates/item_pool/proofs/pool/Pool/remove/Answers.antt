@@ -1,5 +1,5 @@
-use Rattle.std.proofs.Common.{◌≡◌, ◌+◌, ◌-◌, ◌≤◌, min, nat_eq, Some, None, refl, sym, ◌∙◌, subst, arith, ne_eqb}
-use Rattle.std.specs.HashMap.{get, spare}
+use Rattle.std.proofs.Common.{◌≡◌, ◌+◌, ◌-◌, ◌≤◌, min, Some, None, refl, sym, ◌∙◌, subst, arith, ne_eqb}
+use Rattle.item_pool.specs.Table.{slot_of, spare_of}
 use Rattle.item_pool.specs.declared.pool.Pool.TheInside.{Inside}
 use Rattle.item_pool.specs.CellsKept.{live_of}
 use Rattle.item_pool.specs.Contents.{Contents, contents, Lacks, Removes}
@@ -13,23 +13,23 @@ overflow_sub-self g c = some_live c.self.inside c.self.invariant c.args.it.seria
 pub invariant_of-self : goal.invariant_of-self
 invariant_of-self g c =
     let p = c.self.inside in let s = c.args.it.serial in let i = c.in-Some.slot in let x = c.vacate-value.result in
-    let e : get nat_eq p.slots s ≡ Some i = sym c.in-Some.ensures in
+    let e : slot_of p.table s ≡ Some i = sym c.in-Some.ensures in
     let value = c.vacate-value.ensures.value in
     remove_pool p _ c.self.invariant s i x e value (live_within p.cells i x value) c.vacate-value.ensures.cells refl refl refl refl
-    c.remove-slot.ensures.updates.1 (λ r ne. c.remove-slot.ensures.updates.2 r (ne_eqb s r (λ q. ne (sym q))))
+    c.remove.ensures.entry.here c.remove.ensures.entry.others
 
 pub returns-in-Some : goal.returns-in-Some
 returns-in-Some g c =
     let X = g.row.T.Denot in let p = c.self.inside in let s = c.args.it.serial in let i = c.in-Some.slot in let x = c.vacate-value.result in
-    let e : get nat_eq p.slots s ≡ Some i = sym c.in-Some.ensures in let low = c.self.invariant.table.given s i e in
+    let e : slot_of p.table s ≡ Some i = sym c.in-Some.ensures in let low = c.self.invariant.table.given s i e in
     let value = c.vacate-value.ensures.value in
-    let q : Inside X = record { cells = c.vacate-value.new.cells; slots = c.remove-slot.new.self; first = i; free = p.free + 1; live = p.live - 1; made = p.made } in
+    let q : Inside X = record { cells = c.vacate-value.new.cells; table = c.remove.new.self; first = i; free = p.free + 1; live = p.live - 1; made = p.made } in
     let live = remove_live p q c.self.invariant s i x e value (live_within p.cells i x value) c.vacate-value.ensures.cells refl refl refl refl
-    c.remove-slot.ensures.updates.1 (λ r ne. c.remove-slot.ensures.updates.2 r (ne_eqb s r (λ a. ne (sym a)))) in
-    let more : min p.free (spare p.slots) ≤ min q.free (spare q.slots) = omega (arith, c.remove-slot.ensures.spare) in
-    let after : Contents X = contents (live_of q.cells) p.made (min q.free (spare q.slots)) in
+    c.remove.ensures.entry.here c.remove.ensures.entry.others in
+    let more : min p.free (spare_of p.table) ≤ min q.free (spare_of q.table) = omega (arith, c.remove.ensures.spare) in
+    let after : Contents X = contents (live_of q.cells) p.made (min q.free (spare_of q.table)) in
     subst (λ (o : Contents X). Removes o after s x) c.self.view_is (record {
-      held = (seen_some p.cells (get nat_eq p.slots) p.made c.self.invariant.table s i e ∙ value, low.0, low.1);
+      held = (seen_some p.cells (slot_of p.table) p.made c.self.invariant.table s i e ∙ value, low.0, low.1);
       live = live;
       made = refl;
       spare = more;
@@ -37,6 +37,6 @@ returns-in-Some g c =
 
 pub returns-in-None : goal.returns-in-None
 returns-in-None g c =
-    let p = c.self.inside in let t = get nat_eq p.slots in let s = c.args.it.serial in
+    let p = c.self.inside in let t = slot_of p.table in let s = c.args.it.serial in
     let e : t s ≡ None = sym c.in-None.ensures in
     (subst (λ (o : Contents g.row.T.Denot). Lacks o s c.why_gone.result) c.self.view_is (seen_none p.cells t p.made c.self.invariant.table s e, c.why_gone.ensures), refl)

@@ -1,0 +1,27 @@
+-- Where the homes of serials are, and which serials are at home.
+use Rattle.std.specs.Prelude.{ℕ, ◌≢◌, ◌%◌, ◌<◌, List, length, get_or, nat_eq, if◌then◌else◌, Option, Some, None}
+use Rattle.std.specs.Int.{IsPowerOfTwo}
+use Rattle.item_pool.specs.declared.homes.Home.{Home}
+
+-- there are no homes, or a power of two
+abbrev pub AreHomes : List Home → Type 0
+AreHomes places = 0 < length places → IsPowerOfTwo (length places)
+
+abbrev pub nobody : Home
+nobody = record { serial = 0; slot = 0 }
+
+-- the slot of the serial s, where the home is its own
+abbrev pub slot_in : Home → ℕ → Option ℕ
+slot_in home s = (if nat_eq s 0 then None else (if nat_eq home.serial s then Some home.slot else None))
+
+-- the home of the serial s: the place of its last bits
+abbrev pub home_at : List Home → ℕ → Home
+home_at places s = get_or places (s % length places) nobody
+
+-- the slot of the serial s, where it is at home
+abbrev pub at_home : List Home → ℕ → Option ℕ
+at_home places s = slot_in (home_at places s) s
+
+-- the serial s has a home, and nobody is at home there: who lies there, if any, has another home
+abbrev pub IsFree : List Home → ℕ → Type 0
+IsFree places s = let k = (home_at places s).serial in (0 < length places) × ((k ≢ 0) → (k % length places) ≢ (s % length places))
