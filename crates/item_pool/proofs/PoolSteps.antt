@@ -1,5 +1,5 @@
 -- That each step leaves a pool as it has to be, from its fields before, p, and after, q.
-use Rattle.std.proofs.Common.{◌≡◌, ℕ, zero, suc, List, [], ◌∷◌, ◌++◌, ◌+◌, ◌-◌, ◌<◌, ◌≤◌, ◌≢◌, ◌^◌, Option, Some, None, length, set, refl, sym, ap, ◌∙◌, subst, arith, length-set, length-append, ⊎_elim}
+use Rattle.std.proofs.Common.{◌≡◌, ℕ, zero, suc, List, [], ◌∷◌, ◌++◌, ◌+◌, ◌-◌, ◌<◌, ◌≤◌, ◌≢◌, ◌^◌, Some, None, length, set, refl, sym, ap, ◌∙◌, subst, arith, length-set, length-append, ⊎_elim}
 use Rattle.std.proofs.lemmas.Bool.{cases_lt}
 use Rattle.std.specs.Ordering.{nat_cmp}
 use Rattle.item_pool.proofs.Seen.{live_append}

@@ -7,15 +7,18 @@
 //!
 //! - `places`: a block of raw memory as a row of places. All that holds a pointer stands there.
 //! - `block` and `cells`: blocks of cells, and cells by their slots.
-//! - `pool`: the free cells are one chain, and a hash table has the slot of each live serial. Its room is that of the
-//!   most values that lived at once, whatever the serials are.
+//! - `homes` and `table`: the slot of each live serial, which lies in the serial's home, or in a hash table where another
+//!   was there first.
+//! - `pool`: the cells with the table, and the chain of free cells.
 //!
 //! An item has the slot that its value was put into, as a hint: where the hint is right, a look goes to the cell in one
 //! step, and else by way of the table. No answer depends on it.
 //!
-//! A cell has 8 bytes beside its `Option<T>`, and there are at most twice as many as values lived at once, and 64. The
-//! table has some 22 bytes for each value that it has room for, which is doubled where it has to grow. Memory goes back
-//! when the pool is dropped, and its live values are dropped with it.
+//! A cell has 8 bytes beside its `Option<T>`, and there are at most twice as many as values lived at once, and 64. There
+//! are 64 homes more than cells, of 8 bytes each, where there was memory for them. The hash table has some 22 bytes for
+//! each serial that it has room for, which is doubled where it has to grow: room for the most that were asked for by
+//! `reserve`, and for the most whose homes were taken at once. Memory goes back when the pool is dropped, and its live
+//! values are dropped with it.
 #![tactic(auto)]
 
 mod block;

@@ -105,6 +105,46 @@ fn takes_in_what_it_has_room_for(rt: HostRuntime) {
     assert_eq!(rt; pool.made(), 1000);
 }
 
+/// Takes 6,400 values in, and out again all but each 64th: of 64 homes, one is that of all that stay.
+fn keep_each_64th(pool: &mut Pool<u32>) -> u32 {
+    let mut failed = 0u32;
+    for value in 1..=6400u32 {
+        match pool.insert(value) {
+            Ok(it) if value % 64 != 0 => {
+                if pool.remove(it) != Ok(value) {
+                    failed = 1;
+                }
+            }
+            Ok(_) => {}
+            Err(_) => failed = 1,
+        }
+    }
+    failed
+}
+
+/// How many of those are found by their serials alone, and then taken out.
+fn find_each_64th(pool: &mut Pool<u32>) -> u32 {
+    let mut found = 0u32;
+    for serial in (64..=6400u32).step_by(64) {
+        if look(pool, 4_000_000_000, serial) == serial
+            && take(pool, 4_000_000_000, serial) == serial
+            && look(pool, 4_000_000_000, serial) == 1
+        {
+            found = found.wrapping_add(1);
+        }
+    }
+    found
+}
+
+#[test]
+fn finds_serials_of_one_home(rt: HostRuntime) {
+    let mut pool = Pool::new(rt.alloc());
+    assert_eq!(rt; keep_each_64th(&mut pool), 0);
+    assert_eq!(rt; pool.len(), 100);
+    assert_eq!(rt; find_each_64th(&mut pool), 100);
+    assert_eq!(rt; pool.len(), 0);
+}
+
 /// A text of its own memory, which counts how often it is dropped.
 struct Counted<'a> {
     drops: &'a Cell<u32>,

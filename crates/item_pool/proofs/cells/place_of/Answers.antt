@@ -1,4 +1,4 @@
-use Rattle.std.proofs.Common.{◌≡◌, ◌+◌, ◌-◌, ◌*◌, ◌%◌, ◌^◌, ◌≤◌, subst, sym, arith}
+use Rattle.std.proofs.Common.{◌≡◌, ◌+◌, ◌-◌, ◌*◌, ◌%◌, ◌^◌, subst, sym, arith}
 use Rattle.std.proofs.lemmas.Nat.{one_shl}
 use Rattle.item_pool.specs.Joined.{LiesAt}
 use Rattle.item_pool.proofs.Joins.{high_bit, lies_at}

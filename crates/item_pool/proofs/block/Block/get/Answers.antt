@@ -1,4 +1,4 @@
-use Rattle.std.proofs.Common.{◌<◌, length, arith, sym, ◌∙◌, subst, get_or, ◌≡◌, Some}
+use Rattle.std.proofs.Common.{◌<◌, length, sym, ◌∙◌, subst, get_or, ◌≡◌, Some}
 use Rattle.item_pool.specs.Chained.{blank}
 use Rattle.item_pool.specs.Filled.{somes}
 use Rattle.item_pool.proofs.Blocks.{is_filled, some_at}

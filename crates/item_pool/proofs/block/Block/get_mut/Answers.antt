@@ -1,4 +1,4 @@
-use Rattle.std.proofs.Common.{◌<◌, length, arith, sym, ap, ◌∙◌, subst, get_or, set, ◌≡◌, Some, refl, length-set}
+use Rattle.std.proofs.Common.{◌<◌, length, sym, ap, ◌∙◌, subst, get_or, set, ◌≡◌, Some, refl, length-set}
 use Rattle.item_pool.specs.Chained.{blank}
 use Rattle.item_pool.specs.Filled.{somes}
 use Rattle.item_pool.proofs.Blocks.{is_filled, some_at, somes-set, full-set}

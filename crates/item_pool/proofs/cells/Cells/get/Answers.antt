@@ -1,6 +1,6 @@
 use Rattle.std.proofs.Common.{◌≡◌, ◌<◌, [], get_or, length, sym, ap, ◌∙◌, subst, arith}
 use Rattle.item_pool.specs.Chained.{blank}
-use Rattle.item_pool.specs.Joined.{block_size, joined}
+use Rattle.item_pool.specs.Joined.{joined}
 use Rattle.item_pool.proofs.Joins.{any_default, is_block, joined_at, block_long}
 use Rattle.item_pool.proofs.cells.Cells.get.Goals as goal
 

@@ -1,4 +1,4 @@
-use Rattle.std.proofs.Common.{◌≡◌, ◌+◌, [], ◌∷◌, ◌++◌, sym, ap, ◌∙◌, subst, length, arith}
+use Rattle.std.proofs.Common.{◌≡◌, ◌+◌, [], ◌∷◌, ◌++◌, sym, ap, ◌∙◌, subst, length}
 use Rattle.item_pool.specs.Chained.{chained}
 use Rattle.item_pool.specs.Joined.{block_size, joined, AreBlocks}
 use Rattle.item_pool.proofs.Blocks.{length-chained}

@@ -1,4 +1,4 @@
-use Rattle.std.proofs.Common.{◌≡◌, length, is_ok, sym, ap, ◌∙◌, eqb-true}
+use Rattle.std.proofs.Common.{length, is_ok, sym, ap, ◌∙◌, eqb-true}
 use Rattle.item_pool.specs.Homes.{at_home}
 use Rattle.item_pool.proofs.AtHome.{doubled_homes, doubled_at_home, first_homes}
 use Rattle.item_pool.proofs.homes.Homes.double.Goals as goal

@@ -1,4 +1,4 @@
-use Rattle.std.proofs.Common.{◌+◌, ◌-◌, ◌<◌, ◌≤◌, min, refl, sym, subst, arith, ne_eqb}
+use Rattle.std.proofs.Common.{◌+◌, ◌-◌, ◌<◌, ◌≤◌, min, refl, sym, subst, arith}
 use Rattle.item_pool.specs.Table.{slot_of, spare_of}
 use Rattle.item_pool.specs.Contents.{Contents, contents, Inserts}
 use Rattle.item_pool.specs.CellsKept.{live_of}

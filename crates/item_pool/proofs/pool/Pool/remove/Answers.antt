@@ -1,4 +1,4 @@
-use Rattle.std.proofs.Common.{◌≡◌, ◌+◌, ◌-◌, ◌≤◌, min, Some, None, refl, sym, ◌∙◌, subst, arith, ne_eqb}
+use Rattle.std.proofs.Common.{◌≡◌, ◌+◌, ◌-◌, ◌≤◌, min, Some, None, refl, sym, ◌∙◌, subst, arith}
 use Rattle.item_pool.specs.Table.{slot_of, spare_of}
 use Rattle.item_pool.specs.declared.pool.Pool.TheInside.{Inside}
 use Rattle.item_pool.specs.CellsKept.{live_of}
