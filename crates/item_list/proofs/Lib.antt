@@ -2,6 +2,6 @@ pub mod Enters
 pub mod Exits
 pub mod Neighbours
 pub mod Pairs
-pub mod Reversed
+pub mod Readings
 pub mod Steps
-pub mod Turns
+pub mod Turned

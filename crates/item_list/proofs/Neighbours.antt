@@ -7,7 +7,7 @@ use Rattle.item_ring.proofs.Lists.{in_left, in_right, in_either, cut_at}
 use Rattle.item_list.specs.declared.node.Node.{Node}
 use Rattle.item_list.specs.Items.{serials, HasBetween}
 use Rattle.item_list.specs.Kept.{members, IsHeaded, node, items_of, IsKept, IsNamed}
-use Rattle.item_list.proofs.Pairs.{some_same, Tagged, named_listed, Cut, cut, front_tag, front_none, back_tag, back_none, front_in, back_in, tagged_join}
+use Rattle.item_list.proofs.Pairs.{some_same, named_listed, Cut, cut, front_tag, front_none, back_tag, back_none, front_in, back_in, tagged_join}
 use Rattle.item_list.proofs.Steps.{linked, named, tagged_now}
 
 one_of : (r m : ℕ) (cs : List ℕ) → IsIn r (m ∷ []) → IsIn r (m ∷ cs)
@@ -49,17 +49,8 @@ module _ {X : Type 0} where
     pub stands : (h : ℕ) × StandsBetween s h n.member around.front around.rear
     stands = let l = linked s head p kept k n e in (l.0, ring_between l.0 l.1.0)
 
-    pub rear_tags : Tagged s.tags around.rear behind
-    rear_tags = around.rears
-
-    pub front_tags : Tagged s.tags around.front before
-    front_tags = around.fronts
-
     pub mid_tag : map.get s.tags n.member ≡ Some k
     mid_tag = ap (map.get s.tags) (sym mid_is) ∙ around.tag
-
-    pub rears : List ℕ
-    rears = around.rear
 
     pub next_is : (r : Option ℕ) → ((h : ℕ) (bs cs : List ℕ) → StandsBetween s h n.member bs cs → r ≡ front cs) → (m j : ℕ) → r ≡ Some m → map.get s.tags m ≡ Some j → Some j ≡ front behind
     next_is r ens m j is tag = front_tag s.tags around.rear behind around.rears m j (sym is ∙ ens stands.0 around.front around.rear stands.1) tag
@@ -81,14 +72,8 @@ module _ {X : Type 0} where
     pub last_named : (h m : ℕ) → head ≡ Some h → Some m ≡ back (ring s h) → IsNamed s p m
     last_named h m is e = named s head p kept m (back_in (members s head) m (e ∙ ap (λ o. back (members s o)) (sym is)))
 
-    pub first_is : (h m k : ℕ) → head ≡ Some h → Some m ≡ front (ring s h) → map.get s.tags m ≡ Some k → Some k ≡ front (serials (items_of s head p).pairs)
-    first_is h m k is e tag = front_tag s.tags (members s head) (serials (items_of s head p).pairs) (tagged_now s head p kept) m k (e ∙ ap (λ o. front (members s o)) (sym is)) tag
-
     pub last_is : (h m k : ℕ) → head ≡ Some h → Some m ≡ back (ring s h) → map.get s.tags m ≡ Some k → Some k ≡ back (serials (items_of s head p).pairs)
     last_is h m k is e tag = back_tag s.tags (members s head) (serials (items_of s head p).pairs) (tagged_now s head p kept) m k (e ∙ ap (λ o. back (members s o)) (sym is)) tag
-
-    pub first_none : (h : ℕ) → head ≡ Some h → None ≡ front (ring s h) → None ≡ front (serials (items_of s head p).pairs)
-    first_none h is e = front_none s.tags (members s head) (serials (items_of s head p).pairs) (tagged_now s head p kept) (e ∙ ap (λ o. front (members s o)) (sym is))
 
     pub last_none : (h : ℕ) → head ≡ Some h → None ≡ back (ring s h) → None ≡ back (serials (items_of s head p).pairs)
     last_none h is e = back_none s.tags (members s head) (serials (items_of s head p).pairs) (tagged_now s head p kept) (e ∙ ap (λ o. back (members s o)) (sym is))

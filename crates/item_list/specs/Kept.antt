@@ -1,4 +1,4 @@
--- How a ring of members and a pool of nodes stand for a list.
+-- How a ring of members and a pool of nodes stand for a chain.
 use Rattle.std.specs.Prelude.{◌≡◌, ℕ, ◌+◌, ◌<◌, ◌≤◌, false, List, [], ◌∷◌, Option, Some, None, ◌⊎◌}
 use Rattle.std.specs.Ordering.{nat_cmp}
 use Rattle.std.specs.FinMap as map

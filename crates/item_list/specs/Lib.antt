@@ -1,3 +1,4 @@
-pub mod Holds
+pub mod Chained
 pub mod Items
 pub mod Kept
+pub mod Reads

@@ -4,9 +4,11 @@
 //! and isn't given again (the type `list` of Mehlhorn and Naeher, LEDA, Cambridge 1999, section 3.2).
 //!
 //! - `node`: what is kept for an item.
-//! - `list`: a ring of members gives the order, and a pool of nodes has the values.
+//! - `chain`: a ring of members gives the order, and a pool of nodes has the values.
+//! - `list`: a chain, and the direction in which it is read.
 #![tactic(auto)]
 
+mod chain;
 mod list;
 mod node;
 #[cfg(test)]

@@ -1,26 +1,22 @@
-//! The list: a ring of members for the order, and a pool of nodes for the values.
-ghost use Rattle.std.specs.Prelude.{◌≡◌, ℕ, ◌+◌, ◌<◌, ◌≤◌, List, [], ◌∷◌, ◌++◌, length, reverse, Some, None, IfOk, IfErr, MatchResult};
-ghost use Rattle.std.specs.FinMap as map;
-ghost use Rattle.item_ring.specs.RingLists.{AreApart, IsHead, ring, front, back};
-ghost use Rattle.item_list.specs.Kept.{Opens, IsHeaded, IsKept, IsNamed, Makes, Comes, Declines, Declined};
-ghost use Rattle.item_list.specs.Items.{items, serials, serial_of, pairs_before, pairs_behind, pairs_with, Holds, HasItem, Lacks, AreItems, Enters, Returns, ReturnsBeside, Removes, Assigns, MovesToFront, MovesToRear, IsBehind, IsBefore, IsCyclicBehind, IsCyclicBefore};
+//! The list: a chain, and the direction in which it is read.
+ghost use Rattle.std.specs.Prelude.{◌≡◌, ◌+◌, List, [], ◌∷◌, ◌++◌, length, reverse, IfOk, IfErr, MatchResult};
+ghost use Rattle.item_ring.specs.RingLists.{front, back};
+ghost use Rattle.item_list.specs.Items.{items, serials, serial_of, pairs_before, pairs_behind, Holds, HasItem, Lacks, AreItems, Enters, Returns, ReturnsBeside, Removes, Assigns, MovesToFront, MovesToRear, IsBehind, IsBefore, IsCyclicBehind, IsCyclicBefore};
 
-use crate::node::{BesideRefusal, Node};
-use item_pool::{Gone, InsertRefusal, Item, MOST_SERIALS, Pool};
-use item_ring::{Head, Member, RingRefusal, Rings};
+use crate::chain::Chain;
+use crate::node::BesideRefusal;
+use item_pool::{Gone, InsertRefusal, Item};
 use std::alloc::Global;
 use std::marker::Model;
-use std::mem;
 
 /// A list of values. Each has an item, by which it is found in constant time wherever it stands.
 ///
 /// A clause sees the values in their order, each with its serial, and how many serials were made.
 #[derive(Drop)]
 pub struct List<E> {
-    rings: Rings,
-    /// The ring of all members, which is made with the first value.
-    head: Option<Head>,
-    nodes: Pool<Node<E>>,
+    chain: Chain<E>,
+    /// Whether the chain is read from the rear to the front.
+    is_turned: bool,
 }
 
 impl<E> Model for List<E> {
@@ -30,96 +26,9 @@ impl<E> Model for List<E> {
 
     ghost coded = { items_code E.code };
 
-    ghost use Rattle.item_list.specs.Holds.{list_of, IsList};
+    ghost use Rattle.item_list.specs.Reads.{list_of};
 
     ghost view = { λ a. list_of a };
-
-    ghost invariant = { λ a. IsList a };
-}
-
-/// The head of the ring, which is made where there is none.
-fn open_ring(rings: &mut Rings, head: &mut Option<Head>) -> Result<Head, RingRefusal>
-    requires headed { IsHeaded rings.old head.old }
-    requires apart { AreApart rings.old }
-    ensures ok { IfOk result (λ h. Opens rings.old rings.new head.old head.new h) }
-    ensures err { IfErr result (λ _. (rings.new ≡ rings.old) × (head.new ≡ head.old)) }
-{
-    if let Some(there) = *head {
-        return Ok(there);
-    }
-    let made = rings.add_head()?;
-    *head = Some(made);
-    Ok(made)
-}
-
-/// Takes a value in under the next serial, with a member that is loose.
-fn make_node<E>(
-    rings: &mut Rings,
-    nodes: &mut Pool<Node<E>>,
-    value: E,
-) -> Result<(Member, Item), InsertRefusal<E>>
-    requires few { map.len rings.old.tags ≤ nodes.old.made }
-    requires room { nodes.old.made < 16777215 }
-    ensures ok { IfOk result (λ r. Makes rings.old rings.new nodes.old nodes.new r.0 r.1 value) }
-    ensures err { IfErr result (λ why. Declines rings.old rings.new nodes.old nodes.new value why) }
-{
-    if nodes.spare() == 0 && nodes.reserve(1).is_err() {
-        return Err(InsertRefusal::NoMemory(value));
-    }
-    let Ok(member) = rings.add_member(nodes.made() + 1) else {
-        return Err(InsertRefusal::NoMemory(value));
-    };
-    let item = nodes.insert_reserved(Node { value, member });
-    Ok((member, item))
-}
-
-/// Takes a value in under the next serial, with a member that is loose, and makes the ring where there is none.
-fn enter<E>(
-    rings: &mut Rings,
-    head: &mut Option<Head>,
-    nodes: &mut Pool<Node<E>>,
-    value: E,
-) -> Result<(Head, Member, Item), InsertRefusal<E>>
-    requires kept { IsKept rings.old head.old nodes.old }
-    ensures ok { IfOk result (λ r. Comes rings.old rings.new head.old head.new nodes.old nodes.new r.0 r.1 r.2 value) }
-    ensures err { IfErr result (λ why. Declined rings.old rings.new head.old head.new nodes.old nodes.new value why) }
-{
-    if nodes.made() == MOST_SERIALS {
-        return Err(InsertRefusal::Spent(value));
-    }
-    let Ok(ring) = open_ring(rings, head) else {
-        return Err(InsertRefusal::NoMemory(value));
-    };
-    let (member, item) = make_node(rings, nodes, value)?;
-    Ok((ring, member, item))
-}
-
-/// Turns the order of a ring round: each member behind the first is put before all others in turn.
-fn reverse_ring(rings: &mut Rings, head: Head)
-    requires head { IsHead rings.old head }
-    requires apart { AreApart rings.old }
-    ensures rings { rings.new.rings ≡ map.insert rings.old.rings head (reverse (ring rings.old head)) }
-    ensures loose { rings.new.loose ≡ rings.old.loose }
-    ensures tags { rings.new.tags ≡ rings.old.tags }
-    ensures apart { AreApart rings.new }
-{
-    if let Some(first) = rings.first(head) {
-        while let Some(next) = rings.next(first) {
-            rings.unlink(next);
-            rings.push_front(head, next);
-        }
-    }
-}
-
-/// The item of a member.
-fn item_at<E>(rings: &Rings, nodes: &Pool<Node<E>>, member: Member) -> Item
-    requires { IsNamed rings.now nodes.now member }
-    ensures { map.get rings.now.tags member ≡ Some result.serial }
-{
-    match nodes.item(rings.tag(member)) {
-        Ok(item) => item,
-        Err(_) => unreachable!(),
-    }
 }
 
 impl<E: Drop> List<E> {
@@ -128,9 +37,8 @@ impl<E: Drop> List<E> {
         ensures { result ≡ items [] 0 }
     {
         List {
-            rings: Rings::new(alloc),
-            head: None,
-            nodes: Pool::new(alloc),
+            chain: Chain::new(alloc),
+            is_turned: false,
         }
     }
 
@@ -144,9 +52,11 @@ impl<E: Drop> List<E> {
         ensures ok { IfOk result (λ it. Enters self.old self.new it ((self.old.made + 1, v) ∷ self.old.pairs)) }
         ensures err { IfErr result (λ why. Returns self.old v why × (self.new ≡ self.old)) }
     {
-        let (ring, member, item) = enter(&mut self.rings, &mut self.head, &mut self.nodes, v)?;
-        self.rings.push_front(ring, member);
-        Ok(item)
+        if self.is_turned {
+            self.chain.append(v)
+        } else {
+            self.chain.push(v)
+        }
     }
 
     /// Puts a value at the rear.
@@ -158,9 +68,11 @@ impl<E: Drop> List<E> {
         ensures ok { IfOk result (λ it. Enters self.old self.new it (self.old.pairs ++ (self.old.made + 1, v) ∷ [])) }
         ensures err { IfErr result (λ why. Returns self.old v why × (self.new ≡ self.old)) }
     {
-        let (ring, member, item) = enter(&mut self.rings, &mut self.head, &mut self.nodes, v)?;
-        self.rings.push_back(ring, member);
-        Ok(item)
+        if self.is_turned {
+            self.chain.push(v)
+        } else {
+            self.chain.append(v)
+        }
     }
 
     /// Puts a value right before an item.
@@ -173,13 +85,11 @@ impl<E: Drop> List<E> {
         ensures ok { IfOk result (λ it. HasItem self.old at.serial × Enters self.old self.new it (pairs_before at.serial (self.old.made + 1, v) self.old.pairs)) }
         ensures err { IfErr result (λ why. ReturnsBeside self.old at.serial v why × (self.new ≡ self.old)) }
     {
-        let place = match self.nodes.get(at) {
-            Ok(node) => node.member,
-            Err(why) => return Err(BesideRefusal::Gone(v, why)),
-        };
-        let (_ring, member, item) = enter(&mut self.rings, &mut self.head, &mut self.nodes, v)?;
-        self.rings.insert_before(place, member);
-        Ok(item)
+        if self.is_turned {
+            self.chain.insert_behind(at, v)
+        } else {
+            self.chain.insert_before(at, v)
+        }
     }
 
     /// Puts a value right behind an item.
@@ -191,13 +101,11 @@ impl<E: Drop> List<E> {
         ensures ok { IfOk result (λ it. HasItem self.old at.serial × Enters self.old self.new it (pairs_behind at.serial (self.old.made + 1, v) self.old.pairs)) }
         ensures err { IfErr result (λ why. ReturnsBeside self.old at.serial v why × (self.new ≡ self.old)) }
     {
-        let place = match self.nodes.get(at) {
-            Ok(node) => node.member,
-            Err(why) => return Err(BesideRefusal::Gone(v, why)),
-        };
-        let (_ring, member, item) = enter(&mut self.rings, &mut self.head, &mut self.nodes, v)?;
-        self.rings.insert_after(place, member);
-        Ok(item)
+        if self.is_turned {
+            self.chain.insert_before(at, v)
+        } else {
+            self.chain.insert_behind(at, v)
+        }
     }
 
     /// Takes a value out. Its serial isn't given again.
@@ -209,10 +117,7 @@ impl<E: Drop> List<E> {
     pub fn del_item(&mut self, it: Item) -> Result<E, Gone>
         ensures { MatchResult result (λ v. Removes self.old self.new it.serial v) (λ why. Lacks self.old it.serial why × (self.new ≡ self.old)) }
     {
-        let node = self.nodes.remove(it)?;
-        self.rings.unlink(node.member);
-        self.rings.drop_member(node.member);
-        Ok(node.value)
+        self.chain.del_item(it)
     }
 
     /// The value of an item.
@@ -223,8 +128,7 @@ impl<E: Drop> List<E> {
     pub fn contents(&self, it: Item) -> Result<&E, Gone>
         ensures { MatchResult result (λ v. Holds self.now it.serial v.now) (λ why. Lacks self.now it.serial why) }
     {
-        let node = self.nodes.get(it)?;
-        Ok(&node.value)
+        self.chain.contents(it)
     }
 
     /// Gives an item another value. The old one comes back.
@@ -235,26 +139,29 @@ impl<E: Drop> List<E> {
     pub fn assign(&mut self, it: Item, v: E) -> Result<E, Gone>
         ensures { MatchResult result (λ old. Assigns self.old self.new it.serial old v) (λ why. Lacks self.old it.serial why × (self.new ≡ self.old)) }
     {
-        let node = self.nodes.get_mut(it)?;
-        Ok(mem::replace(&mut node.value, v))
+        self.chain.assign(it, v)
     }
 
     /// The first item, and none exactly where the list is empty.
     pub fn first(&self) -> Option<Item>
         ensures { serial_of result ≡ front (serials self.now.pairs) }
     {
-        let ring = self.head?;
-        let member = self.rings.first(ring)?;
-        Some(item_at(&self.rings, &self.nodes, member))
+        if self.is_turned {
+            self.chain.last()
+        } else {
+            self.chain.first()
+        }
     }
 
     /// The last item, and none exactly where the list is empty.
     pub fn last(&self) -> Option<Item>
         ensures { serial_of result ≡ back (serials self.now.pairs) }
     {
-        let ring = self.head?;
-        let member = self.rings.last(ring)?;
-        Some(item_at(&self.rings, &self.nodes, member))
+        if self.is_turned {
+            self.chain.first()
+        } else {
+            self.chain.last()
+        }
     }
 
     /// The item behind, and none exactly where the item is the last.
@@ -265,10 +172,10 @@ impl<E: Drop> List<E> {
     pub fn succ(&self, it: Item) -> Result<Option<Item>, Gone>
         ensures { MatchResult result (λ r. IsBehind self.now it.serial r) (λ why. Lacks self.now it.serial why) }
     {
-        let node = self.nodes.get(it)?;
-        match self.rings.next(node.member) {
-            Some(next) => Ok(Some(item_at(&self.rings, &self.nodes, next))),
-            None => Ok(None),
+        if self.is_turned {
+            self.chain.pred(it)
+        } else {
+            self.chain.succ(it)
         }
     }
 
@@ -280,10 +187,10 @@ impl<E: Drop> List<E> {
     pub fn pred(&self, it: Item) -> Result<Option<Item>, Gone>
         ensures { MatchResult result (λ r. IsBefore self.now it.serial r) (λ why. Lacks self.now it.serial why) }
     {
-        let node = self.nodes.get(it)?;
-        match self.rings.prev(node.member) {
-            Some(prev) => Ok(Some(item_at(&self.rings, &self.nodes, prev))),
-            None => Ok(None),
+        if self.is_turned {
+            self.chain.succ(it)
+        } else {
+            self.chain.pred(it)
         }
     }
 
@@ -295,9 +202,11 @@ impl<E: Drop> List<E> {
     pub fn cyclic_succ(&self, it: Item) -> Result<Item, Gone>
         ensures { MatchResult result (λ r. IsCyclicBehind self.now it.serial r) (λ why. Lacks self.now it.serial why) }
     {
-        let node = self.nodes.get(it)?;
-        let next = self.rings.cyclic_next(node.member);
-        Ok(item_at(&self.rings, &self.nodes, next))
+        if self.is_turned {
+            self.chain.cyclic_pred(it)
+        } else {
+            self.chain.cyclic_succ(it)
+        }
     }
 
     /// The item before, and the last before the first.
@@ -308,9 +217,11 @@ impl<E: Drop> List<E> {
     pub fn cyclic_pred(&self, it: Item) -> Result<Item, Gone>
         ensures { MatchResult result (λ r. IsCyclicBefore self.now it.serial r) (λ why. Lacks self.now it.serial why) }
     {
-        let node = self.nodes.get(it)?;
-        let prev = self.rings.cyclic_prev(node.member);
-        Ok(item_at(&self.rings, &self.nodes, prev))
+        if self.is_turned {
+            self.chain.cyclic_succ(it)
+        } else {
+            self.chain.cyclic_pred(it)
+        }
     }
 
     /// Moves an item before all others.
@@ -321,12 +232,11 @@ impl<E: Drop> List<E> {
     pub fn move_to_front(&mut self, it: Item) -> Result<(), Gone>
         ensures { MatchResult result (λ _. MovesToFront self.old self.new it.serial) (λ why. Lacks self.old it.serial why × (self.new ≡ self.old)) }
     {
-        let node = self.nodes.get(it)?;
-        let moved = node.member;
-        let ring = self.rings.head_of(moved);
-        self.rings.unlink(moved);
-        self.rings.push_front(ring, moved);
-        Ok(())
+        if self.is_turned {
+            self.chain.move_to_rear(it)
+        } else {
+            self.chain.move_to_front(it)
+        }
     }
 
     /// Moves an item behind all others.
@@ -337,23 +247,20 @@ impl<E: Drop> List<E> {
     pub fn move_to_rear(&mut self, it: Item) -> Result<(), Gone>
         ensures { MatchResult result (λ _. MovesToRear self.old self.new it.serial) (λ why. Lacks self.old it.serial why × (self.new ≡ self.old)) }
     {
-        let node = self.nodes.get(it)?;
-        let moved = node.member;
-        let ring = self.rings.head_of(moved);
-        self.rings.unlink(moved);
-        self.rings.push_back(ring, moved);
-        Ok(())
+        if self.is_turned {
+            self.chain.move_to_front(it)
+        } else {
+            self.chain.move_to_rear(it)
+        }
     }
 
     /// Turns the order round. Each item keeps its value.
     ///
-    /// It takes time in proportion to the number of values. Every other call takes constant time.
+    /// It takes constant time, as every other call does.
     pub fn reverse_items(&mut self)
         ensures { self.new ≡ items (reverse self.old.pairs) self.old.made }
     {
-        if let Some(ring) = self.head {
-            reverse_ring(&mut self.rings, ring);
-        }
+        self.is_turned = !self.is_turned;
     }
 
     /// How many values there are.
@@ -361,9 +268,6 @@ impl<E: Drop> List<E> {
         ensures len { result ≡ length self.now.pairs }
         ensures whole { AreItems self.now }
     {
-        match self.head {
-            Some(ring) => self.rings.len(ring),
-            None => 0,
-        }
+        self.chain.len()
     }
 }

@@ -1,18 +1,12 @@
--- The pool has the value under the serial.
-use Rattle.std.proofs.Common.{subst}
+-- The chain says the same of either reading.
+use Rattle.std.specs.Result.{MatchResult}
 use Rattle.item_list.specs.Items.{Items, Holds, Lacks}
-use Rattle.item_list.proofs.Exits.{err_out}
-use Rattle.item_list.proofs.Steps.{holds, lacks}
+use Rattle.item_list.proofs.Readings.{outcomes, both_ways, lacks, holds}
 use Rattle.item_list.proofs.list.List.contents.Goals as goal
 
 pub returns : goal.returns
 returns g c =
     let a = c.self.inside in
-    subst (λ (l : Items g.row.E.Denot). Holds l c.args.it.serial c.in_ok-node.node.now.value) c.self.view_is (holds a.rings a.head a.nodes c.self.invariant c.args.it.serial c.in_ok-node.node.now c.in_ok-node.ensures.0)
-
-pub returns-in_err-node : goal.returns-in_err-node
-returns-in_err-node g c =
-    let a = c.self.inside in
-    let why = c.in_err-node.field-0.0 in
-    err_out c.from_residual.result (λ v. Holds c.args.self.now c.args.it.serial v.now) (Lacks c.args.self.now c.args.it.serial) why c.from_residual.ensures.1
-    (subst (λ (l : Items g.row.E.Denot). Lacks l c.args.it.serial why) c.self.view_is (lacks a.rings a.head a.nodes c.self.invariant c.args.it.serial why c.in_err-node.ensures))
+    let s = c.args.it.serial in
+    both_ways (λ (l _ : Items g.row.E.Denot). MatchResult c.contents.result (λ v. Holds l s v.now) (Lacks l s)) a.is_turned a.chain a.chain c.args.self.now c.self.view_is c.contents.ensures.answer
+    (outcomes c.contents.result (λ v. holds a.chain c.contents.ensures.whole s v.now) (λ why. lacks a.chain s why) c.contents.ensures.answer)

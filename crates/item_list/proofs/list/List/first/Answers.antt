@@ -1,8 +1,12 @@
--- The first member has the first serial for its tag.
-use Rattle.item_list.proofs.Neighbours.{first_named}
+-- The first of the list is the last of a chain that is turned.
+use Rattle.std.proofs.Common.{◌≡◌, ◌∙◌}
+use Rattle.item_ring.specs.RingLists.{front}
+use Rattle.item_list.specs.Items.{Items, serials, serial_of}
+use Rattle.item_list.proofs.Readings.{backwards, first}
 use Rattle.item_list.proofs.list.List.first.Goals as goal
 
-pub item_at-requires : goal.item_at-requires
-item_at-requires g c =
+pub returns-then-self : goal.returns-then-self
+returns-then-self g c =
     let a = c.self.inside in
-    first_named a.rings a.head a.nodes c.self.invariant c.in_ok-ring.ring c.in_ok-member.member c.in_ok-ring.was c.in_ok-member.ensures.first
+    backwards (λ (l _ : Items g.row.E.Denot). serial_of c.last.result ≡ front (serials l.pairs)) a.is_turned a.chain a.chain c.args.self.now c.self.view_is c.if-self.true
+    (c.last.ensures ∙ first a.chain)

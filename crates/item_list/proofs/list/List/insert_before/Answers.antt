@@ -1,46 +1,22 @@
--- The new member is linked beside the item's.
-use Rattle.std.proofs.Common.{◌≡◌, ◌+◌, refl, subst, ◌∙◌}
-use Rattle.item_list.specs.Items.{Items, Enters, HasItem, Lacks, ReturnsBeside, beside_of, pairs_before}
-use Rattle.item_list.specs.Kept.{items_of}
-use Rattle.item_list.proofs.Exits.{err_out}
-use Rattle.item_list.proofs.Enters.{beside_linked, at_before, beside_returns, kept_out, items_out}
-use Rattle.item_list.proofs.Steps.{holds, lacks}
+-- What stands before in the list stands behind in a chain that is turned.
+use Rattle.std.proofs.Common.{◌≡◌, ◌+◌}
+use Rattle.std.specs.Prelude.{IfOk, IfErr}
+use Rattle.item_list.specs.Items.{Items, HasItem, Enters, ReturnsBeside, pairs_before}
+use Rattle.item_list.proofs.Readings.{if_ok, if_err, backwards, enters_before, returned_beside}
 use Rattle.item_list.proofs.list.List.insert_before.Goals as goal
 
-pub returns-in-Err-clause-err : goal.returns-in-Err-clause-err
-returns-in-Err-clause-err g c =
+pub returns-then-self-clause-ok : goal.returns-then-self-clause-ok
+returns-then-self-clause-ok g c =
     let a = c.self.inside in
-    ((refl, subst (λ (l : Items g.row.E.Denot). Lacks l c.args.at.serial c.in-Err.why) c.self.view_is (lacks a.rings a.head a.nodes c.self.invariant c.args.at.serial c.in-Err.why c.in-Err.ensures)), refl)
+    let s = c.args.at.serial in
+    let t = c.insert_behind.new.self in
+    backwards (λ (l m : Items g.row.E.Denot). IfOk c.insert_behind.result (λ it. HasItem l s × Enters l m it (pairs_before s (l.made + 1, c.args.v) l.pairs))) a.is_turned a.chain t c.args.self.now c.self.view_is c.if-self.true
+    (if_ok c.insert_behind.result (λ it. enters_before a.chain t it c.insert_behind.ensures.whole s (a.chain.made + 1, c.args.v)) c.insert_behind.ensures.ok)
 
-pub insert_before-requires-clause-at : goal.insert_before-requires-clause-at
-insert_before-requires-clause-at g c =
+pub returns-then-self-clause-err : goal.returns-then-self-clause-err
+returns-then-self-clause-err g c =
     let a = c.self.inside in
-    (c.in_ok-_ring._ring, beside_linked a.rings c.enter.new.rings c.enter.new.rings a.head c.enter.new.head a.nodes c.enter.new.nodes c.in_ok-_ring._ring c.in_ok-_ring.member c.in_ok-_ring.item c.args.v c.self.invariant c.in_ok-_ring.ensures.ok refl c.in_ok-_ring.ensures.ok.makes.apart c.args.at.serial c.in-Ok.node.now c.in-Ok.ensures.0)
-
-pub invariant_of-self-2 : goal.invariant_of-self-2
-invariant_of-self-2 g c =
-    let a = c.self.inside in
-    (at_before a.rings c.enter.new.rings c.insert_before.new.self a.head c.enter.new.head a.nodes c.enter.new.nodes c.in_ok-_ring._ring c.in_ok-_ring.member c.in_ok-_ring.item c.args.v c.self.invariant c.in_ok-_ring.ensures.ok c.insert_before.ensures.tags c.insert_before.ensures.apart c.args.at.serial c.in-Ok.node.now c.in-Ok.ensures.0 c.insert_before.ensures.rings).0
-
-pub invariant_of-self : goal.invariant_of-self
-invariant_of-self g c =
-    let a = c.self.inside in
-    kept_out a.rings c.enter.new.rings a.head c.enter.new.head a.nodes c.enter.new.nodes c.args.v c.in_err-_ring.field-0.0 c.self.invariant c.in_err-_ring.ensures.err
-
-pub returns-clause-ok : goal.returns-clause-ok
-returns-clause-ok g c =
-    let a = c.self.inside in
-    subst (λ (l : Items g.row.E.Denot). HasItem l c.args.at.serial × Enters l (items_of c.insert_before.new.self c.enter.new.head c.enter.new.nodes) c.in_ok-_ring.item (pairs_before c.args.at.serial (l.made + 1, c.args.v) l.pairs)) c.self.view_is
-    ((c.in-Ok.node.now.value, holds a.rings a.head a.nodes c.self.invariant c.args.at.serial c.in-Ok.node.now c.in-Ok.ensures.0), (at_before a.rings c.enter.new.rings c.insert_before.new.self a.head c.enter.new.head a.nodes c.enter.new.nodes c.in_ok-_ring._ring c.in_ok-_ring.member c.in_ok-_ring.item c.args.v c.self.invariant c.in_ok-_ring.ensures.ok c.insert_before.ensures.tags c.insert_before.ensures.apart c.args.at.serial c.in-Ok.node.now c.in-Ok.ensures.0 c.insert_before.ensures.rings).1)
-
-pub returns-in_err-_ring-clause-err : goal.returns-in_err-_ring-clause-err
-returns-in_err-_ring-clause-err g c =
-    let a = c.self.inside in
-    let why = c.in_err-_ring.field-0.0 in
-    let l = items_of c.enter.new.rings c.enter.new.head c.enter.new.nodes in
-    let has : HasItem (items_of a.rings a.head a.nodes) c.args.at.serial = (c.in-Ok.node.now.value, holds a.rings a.head a.nodes c.self.invariant c.args.at.serial c.in-Ok.node.now c.in-Ok.ensures.0) in
-    err_out c.from_residual.result (λ _. Unit {0}) (λ e. ReturnsBeside c.args.self.now c.args.at.serial c.args.v e × (l ≡ c.args.self.now)) (beside_of why) c.from_residual.ensures.1 (
-      subst (λ (o : Items g.row.E.Denot). ReturnsBeside o c.args.at.serial c.args.v (beside_of why)) c.self.view_is
-          (beside_returns (items_of a.rings a.head a.nodes) c.args.at.serial c.args.v why has c.in_err-_ring.ensures.err.returns),
-      items_out a.rings c.enter.new.rings a.head c.enter.new.head a.nodes c.enter.new.nodes c.args.v why c.self.invariant c.in_err-_ring.ensures.err ∙ c.self.view_is,
-    )
+    let s = c.args.at.serial in
+    let t = c.insert_behind.new.self in
+    backwards (λ (l m : Items g.row.E.Denot). IfErr c.insert_behind.result (λ why. ReturnsBeside l s c.args.v why × (m ≡ l))) a.is_turned a.chain t c.args.self.now c.self.view_is c.if-self.true
+    (if_err c.insert_behind.result (λ why. returned_beside a.chain t s c.args.v why) c.insert_behind.ensures.err)

@@ -1,40 +1,14 @@
--- The member is taken out of its ring and linked in again.
-use Rattle.std.proofs.Common.{◌≡◌, refl, subst}
+-- The front of the list is the rear of a chain that is turned.
+use Rattle.std.proofs.Common.{◌≡◌}
+use Rattle.std.specs.Result.{MatchResult}
 use Rattle.item_list.specs.Items.{Items, Lacks, MovesToFront}
-use Rattle.item_list.specs.Kept.{items_of}
-use Rattle.item_list.proofs.Exits.{err_out}
-use Rattle.item_list.proofs.Steps.{holds, lacks, is_linked, to_front, head_stays}
+use Rattle.item_list.proofs.Readings.{outcomes, backwards, lacks_still, moves_to_front}
 use Rattle.item_list.proofs.list.List.move_to_front.Goals as goal
 
-pub head_of-ring-requires : goal.head_of-ring-requires
-head_of-ring-requires g c =
+pub returns-then-self : goal.returns-then-self
+returns-then-self g c =
     let a = c.self.inside in
-    is_linked a.rings a.head a.nodes c.self.invariant c.args.it.serial c.in_ok-node.node.now c.in_ok-node.ensures.0
-
-pub push_front-requires-clause-head : goal.push_front-requires-clause-head
-push_front-requires-clause-head g c =
-    let a = c.self.inside in
-    head_stays a.rings c.unlink.new.self c.unlink.new.self a.head a.nodes c.self.invariant c.args.it.serial c.in_ok-node.node.now c.in_ok-node.ensures.0 c.head_of-ring.result c.head_of-ring.ensures.head c.unlink.ensures.rings c.unlink.ensures.tags refl c.unlink.ensures.apart
-
-pub invariant_of-self : goal.invariant_of-self
-invariant_of-self g c =
-    let a = c.self.inside in
-    (to_front a.rings c.unlink.new.self c.push_front.new.self a.head a.nodes c.self.invariant c.args.it.serial c.in_ok-node.node.now c.in_ok-node.ensures.0 c.head_of-ring.result c.head_of-ring.ensures.head c.unlink.ensures.rings c.unlink.ensures.tags c.push_front.ensures.tags c.push_front.ensures.apart c.push_front.ensures.rings).0
-
-pub returns : goal.returns
-returns g c =
-    let a = c.self.inside in
-    subst (λ (l : Items g.row.E.Denot). MovesToFront l (items_of c.push_front.new.self a.head a.nodes) c.args.it.serial) c.self.view_is (
-      c.in_ok-node.node.now.value,
-      (
-        holds a.rings a.head a.nodes c.self.invariant c.args.it.serial c.in_ok-node.node.now c.in_ok-node.ensures.0,
-        (to_front a.rings c.unlink.new.self c.push_front.new.self a.head a.nodes c.self.invariant c.args.it.serial c.in_ok-node.node.now c.in_ok-node.ensures.0 c.head_of-ring.result c.head_of-ring.ensures.head c.unlink.ensures.rings c.unlink.ensures.tags c.push_front.ensures.tags c.push_front.ensures.apart c.push_front.ensures.rings).1,
-      ),
-    )
-
-pub returns-in_err-node : goal.returns-in_err-node
-returns-in_err-node g c =
-    let a = c.self.inside in
-    let why = c.in_err-node.field-0.0 in
-    err_out c.from_residual.result (λ _. MovesToFront c.args.self.now c.args.self.now c.args.it.serial) (λ e. Lacks c.args.self.now c.args.it.serial e × (c.args.self.now ≡ c.args.self.now)) why c.from_residual.ensures.1
-    (subst (λ (l : Items g.row.E.Denot). Lacks l c.args.it.serial why) c.self.view_is (lacks a.rings a.head a.nodes c.self.invariant c.args.it.serial why c.in_err-node.ensures), refl)
+    let s = c.args.it.serial in
+    let t = c.move_to_rear.new.self in
+    backwards (λ (l m : Items g.row.E.Denot). MatchResult c.move_to_rear.result (λ _. MovesToFront l m s) (λ why. Lacks l s why × (m ≡ l))) a.is_turned a.chain t c.args.self.now c.self.view_is c.if-self.true
+    (outcomes c.move_to_rear.result (λ _. moves_to_front a.chain c.move_to_rear.ensures.whole s t) (λ why. lacks_still a.chain s why t) c.move_to_rear.ensures.answer)

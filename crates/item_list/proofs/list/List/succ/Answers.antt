@@ -1,40 +1,12 @@
--- The member beside it has the serial beside it for its tag.
-use Rattle.std.proofs.Common.{Some, None, refl, subst}
+-- What stands behind in the list stands before in a chain that is turned.
 use Rattle.item_list.specs.Items.{Items, Lacks, IsBehind}
-use Rattle.item_list.proofs.Exits.{err_out}
-use Rattle.item_list.proofs.Neighbours.{next_named, next_is, next_none}
-use Rattle.item_list.proofs.Steps.{holds, lacks, is_linked}
+use Rattle.std.specs.Result.{MatchResult}
+use Rattle.item_list.proofs.Readings.{outcomes, backwards, lacks, is_behind}
 use Rattle.item_list.proofs.list.List.succ.Goals as goal
 
-pub next-requires : goal.next-requires
-next-requires g c =
+pub returns-then-self : goal.returns-then-self
+returns-then-self g c =
     let a = c.self.inside in
-    is_linked a.rings a.head a.nodes c.self.invariant c.args.it.serial c.in_ok-node.node.now c.in_ok-node.ensures.0
-
-pub item_at-requires : goal.item_at-requires
-item_at-requires g c =
-    let a = c.self.inside in
-    next_named a.rings a.head a.nodes c.self.invariant c.args.it.serial c.in_ok-node.node.now c.in_ok-node.ensures.0 (Some c.in-Some.next) c.in-Some.ensures.next c.in-Some.next refl
-
-pub returns-in-Some : goal.returns-in-Some
-returns-in-Some g c =
-    let a = c.self.inside in
-    subst (λ (l : Items g.row.E.Denot). IsBehind l c.args.it.serial (Some c.item_at.result)) c.self.view_is (
-      (c.in_ok-node.node.now.value, holds a.rings a.head a.nodes c.self.invariant c.args.it.serial c.in_ok-node.node.now c.in_ok-node.ensures.0),
-      λ before behind has. next_is a.rings a.head a.nodes c.self.invariant c.args.it.serial c.in_ok-node.node.now c.in_ok-node.ensures.0 before behind has (Some c.in-Some.next) c.in-Some.ensures.next c.in-Some.next c.item_at.result.serial refl c.item_at.ensures,
-    )
-
-pub returns-in-None : goal.returns-in-None
-returns-in-None g c =
-    let a = c.self.inside in
-    subst (λ (l : Items g.row.E.Denot). IsBehind l c.args.it.serial None) c.self.view_is (
-      (c.in_ok-node.node.now.value, holds a.rings a.head a.nodes c.self.invariant c.args.it.serial c.in_ok-node.node.now c.in_ok-node.ensures.0),
-      λ before behind has. next_none a.rings a.head a.nodes c.self.invariant c.args.it.serial c.in_ok-node.node.now c.in_ok-node.ensures.0 before behind has None c.in-None.ensures.next refl,
-    )
-
-pub returns-in_err-node : goal.returns-in_err-node
-returns-in_err-node g c =
-    let a = c.self.inside in
-    let why = c.in_err-node.field-0.0 in
-    err_out c.from_residual.result (IsBehind c.args.self.now c.args.it.serial) (Lacks c.args.self.now c.args.it.serial) why c.from_residual.ensures.1
-    (subst (λ (l : Items g.row.E.Denot). Lacks l c.args.it.serial why) c.self.view_is (lacks a.rings a.head a.nodes c.self.invariant c.args.it.serial why c.in_err-node.ensures))
+    let s = c.args.it.serial in
+    backwards (λ (l _ : Items g.row.E.Denot). MatchResult c.pred.result (IsBehind l s) (Lacks l s)) a.is_turned a.chain a.chain c.args.self.now c.self.view_is c.if-self.true
+    (outcomes c.pred.result (λ r. is_behind a.chain s r) (λ why. lacks a.chain s why) c.pred.ensures)

@@ -3,7 +3,7 @@ use Rattle.std.proofs.Common.{◌+◌, ◌∷◌, subst}
 use Rattle.item_list.specs.Items.{Items, Enters}
 use Rattle.item_list.specs.Kept.{items_of}
 use Rattle.item_list.proofs.Enters.{at_front, kept_out}
-use Rattle.item_list.proofs.list.List.push.Goals as goal
+use Rattle.item_list.proofs.chain.Chain.push.Goals as goal
 
 pub invariant_of-self-2 : goal.invariant_of-self-2
 invariant_of-self-2 g c =

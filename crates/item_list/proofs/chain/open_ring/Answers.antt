@@ -1,6 +1,6 @@
 -- There is no ring yet, and then one that is empty.
 use Rattle.item_list.proofs.Steps.{empty_few, opened}
-use Rattle.item_list.proofs.list.open_ring.Goals as goal
+use Rattle.item_list.proofs.chain.open_ring.Goals as goal
 
 pub add_head-requires : goal.add_head-requires
 add_head-requires c = empty_few c.args.rings.now c.args.head.now c.requires.headed c.in_default.not-Some
