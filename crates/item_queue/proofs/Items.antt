@@ -8,40 +8,37 @@ use Rattle.std.specs.FinMap as map
 use Rattle.std.specs.FinMap.Entries.{below_all, is_sorted, find}
 use Rattle.item_queue.specs.declared.node.Entry.{Entry}
 use Rattle.item_queue.specs.Heap.{priced, priced_of}
-use Rattle.item_queue.specs.IsQueue.{without_places, items_of}
+use Rattle.item_queue.specs.IsQueue.{without_handles, items_of}
 use Rattle.item_queue.proofs.Lookups.{insert_here, insert_apart, remove_here, remove_apart}
 
 module _ {X : Type 0} where
-  below_kept : (x : ℕ) (es : List (ℕ × Entry X)) → below_all nat_cmp x (without_places es) ≡ below_all nat_cmp x es
+  below_kept : (x : ℕ) (es : List (ℕ × Entry X)) → below_all nat_cmp x (without_handles es) ≡ below_all nat_cmp x es
   below_kept x [] = refl
   below_kept x (e ∷ es) = ap (λ b. is_lt (nat_cmp x e.0) && b) (below_kept x es)
 
-  sorted_kept : (es : List (ℕ × Entry X)) → is_sorted nat_cmp (without_places es) ≡ is_sorted nat_cmp es
+  sorted_kept : (es : List (ℕ × Entry X)) → is_sorted nat_cmp (without_handles es) ≡ is_sorted nat_cmp es
   sorted_kept [] = refl
   sorted_kept (e ∷ es) = λ i. below_kept e.0 es i && sorted_kept es i
 
-  find_kept : (q : ℕ) (es : List (ℕ × Entry X)) → find nat_cmp q (without_places es) ≡ priced_of (find nat_cmp q es)
+  find_kept : (q : ℕ) (es : List (ℕ × Entry X)) → find nat_cmp q (without_handles es) ≡ priced_of (find nat_cmp q es)
   find_kept q [] = refl
-  find_kept q (e ∷ es) = elim (eq_by_cmp nat_cmp q e.0) as (λ b. cond b (Some (priced e.1)) (find nat_cmp q (without_places es)) ≡ priced_of (cond b (Some e.1) (find nat_cmp q es))) [ true ↦ refl | false ↦ find_kept q es ]
+  find_kept q (e ∷ es) = elim (eq_by_cmp nat_cmp q e.0) as (λ b. cond b (Some (priced e.1)) (find nat_cmp q (without_handles es)) ≡ priced_of (cond b (Some e.1) (find nat_cmp q es))) [ true ↦ refl | false ↦ find_kept q es ]
 
-  length_kept : (es : List (ℕ × Entry X)) → length (without_places es) ≡ length es
+  length_kept : (es : List (ℕ × Entry X)) → length (without_handles es) ≡ length es
   length_kept [] = refl
   length_kept (e ∷ es) = let l = length_kept es in omega (arith, l)
 
-  items_sorted : (m : map.FinMap nat_cmp (Entry X)) → T (is_sorted nat_cmp (without_places (map.entries m)))
+  items_sorted : (m : map.FinMap nat_cmp (Entry X)) → T (is_sorted nat_cmp (without_handles (map.entries m)))
   items_sorted m = subst T (sym (sorted_kept (map.entries m))) (map.entries_sorted m)
 
   pub get_items : (m : map.FinMap nat_cmp (Entry X)) (q : ℕ) → map.get (items_of m) q ≡ priced_of (map.get m q)
-  get_items m q = map.get-from_sorted nat_cmp (without_places (map.entries m)) q (items_sorted m) ∙ find_kept q (map.entries m) ∙ ap priced_of (sym (map.get-entries m q))
+  get_items m q = map.get-from_sorted nat_cmp (without_handles (map.entries m)) q (items_sorted m) ∙ find_kept q (map.entries m) ∙ ap priced_of (sym (map.get-entries m q))
 
   pub len_items : (m : map.FinMap nat_cmp (Entry X)) → map.len (items_of m) ≡ map.len m
-  len_items m = map.len-entries (items_of m) ∙ ap length (map.entries-from_sorted nat_cmp (without_places (map.entries m)) (items_sorted m)) ∙ length_kept (map.entries m) ∙ sym (map.len-entries m)
+  len_items m = map.len-entries (items_of m) ∙ ap length (map.entries-from_sorted nat_cmp (without_handles (map.entries m)) (items_sorted m)) ∙ length_kept (map.entries m) ∙ sym (map.len-entries m)
 
   same_items : (m n : map.FinMap nat_cmp (ℤ × X)) → ((q : ℕ) → map.get m q ≡ map.get n q) → m ≡ n
   same_items m n is = map.same_map nat_cmp_total map.nat_cmp-IsAntisymmetric m n is
-
-  pub items_kept : (m n : map.FinMap nat_cmp (Entry X)) → ((s : ℕ) → priced_of (map.get n s) ≡ priced_of (map.get m s)) → items_of n ≡ items_of m
-  items_kept m n is = same_items (items_of n) (items_of m) (λ s. get_items n s ∙ is s ∙ sym (get_items m s))
 
   pub items_insert : (m n : map.FinMap nat_cmp (Entry X)) (k : ℕ) (p : ℤ) (x : X) → priced_of (map.get n k) ≡ Some (p, x)
       → ((s : ℕ) → s ≢ k → priced_of (map.get n s) ≡ priced_of (map.get m s)) → items_of n ≡ map.insert (items_of m) k (p, x)

@@ -1,13 +1,14 @@
 pub mod Changes
+pub mod Heaps
 pub mod Holes
 pub mod Informed
 pub mod Items
 pub mod Listings
 pub mod Lookups
 pub mod Orders
+pub mod Places
 pub mod Queues
 pub mod Sifts
 pub mod Sorting
-pub mod Takes
 pub mod Ties
 pub mod Written

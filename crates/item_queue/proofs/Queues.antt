@@ -1,22 +1,22 @@
 -- What the calls of a queue leave of its invariant, and what they answer.
-use Rattle.std.proofs.Common.{◌≡◌, ℕ, ◌+◌, ◌<◌, ◌≤◌, ◌≢◌, List, [], ◌∷◌, ◌++◌, length, Option, Some, None, sym, ap, ◌∙◌, subst, refl, ⊎_elim, arith, length-append}
+use Rattle.std.proofs.Common.{◌≡◌, ℕ, ◌+◌, ◌<◌, ◌≤◌, ◌≢◌, length, Option, Some, None, sym, ap, ◌∙◌, subst, refl, ⊎_elim, arith}
 use Rattle.std.specs.Prelude.{ℤ}
 use Rattle.std.proofs.lemmas.Bool.{cases_eq}
-use Rattle.std.proofs.lemmas.List.{get_or_append_left, get_or_push}
 use Rattle.std.specs.FinMap as map
-use Rattle.item_pool.specs.declared.pool.Item.{Item}
-use Rattle.item_pool.specs.Contents.{Contents, Inserts as PoolInserts}
+use Rattle.item_pool.specs.Contents.{Contents, contents, Inserts as PoolInserts, Removes as PoolRemoves}
 use Rattle.item_queue.specs.declared.node.Node.{Node}
 use Rattle.item_queue.specs.declared.node.Entry.{Entry}
+use Rattle.item_queue.specs.declared.heap.Heap.{Heap}
 use Rattle.item_queue.specs.Order.{AtMost}
 use Rattle.item_queue.specs.Contents.{queued, IsLeastItem, IsLeast}
 use Rattle.item_queue.specs.IsQueue.{items_of, IsQueue}
 use Rattle.item_queue.specs.declared.queue.Queue.TheInside.{Inside}
-use Rattle.item_queue.specs.Heap.{node_at, no_node, entry, entry_of, priced, priced_of, IsHeap, IsHeapBut, IsLowEnough, IsTied, IsMoved, IsLowered, IsTaken}
-use Rattle.item_queue.proofs.Changes.{push_but, push_low, push_tied}
-use Rattle.item_queue.proofs.Items.{get_items, some_entry, items_insert}
-use Rattle.item_queue.proofs.Lookups.{insert_here, insert_apart}
+use Rattle.item_queue.specs.Heap.{node_at, entry, entry_of, priced, priced_of, IsSound, IsTied, IsRated, HasOneMore, HasOneLess, HasOneLower}
+use Rattle.item_queue.proofs.Heaps.{live_in, in_live, sound_of}
+use Rattle.item_queue.proofs.Items.{get_items, some_entry, items_insert, items_remove}
+use Rattle.item_queue.proofs.Lookups.{insert_here, insert_apart, remove_here, remove_apart}
 use Rattle.item_queue.proofs.Sifts.{first_least}
+use Rattle.item_queue.proofs.Ties.{more_tied, less_tied, lower_tied}
 
 module _ {X : Type 0} where
   abbrev priority_or : ℤ → Option (ℤ × X) → ℤ
@@ -27,102 +27,112 @@ module _ {X : Type 0} where
   pair_or v None = v
   pair_or v (Some w) = w
 
+  abbrev entry_or : Entry X → Option (Entry X) → Entry X
+  entry_or e None = e
+  entry_or e (Some f) = f
+
   abbrev pub AreGiven : Contents (Entry X) → Type 0
   AreGiven p = (s : ℕ) (e : Entry X) → entry_of p s ≡ Some e → (0 < s) × (s ≤ p.made)
 
-  pub given_moved : (p q : Contents (Entry X)) → IsMoved p q → AreGiven p → AreGiven q
-  given_moved p q moved given s e is =
-      let old = some_entry (entry_of p s) (priced e) (sym (moved.entries s) ∙ ap priced_of is) in let g = given s old.0 old.1 in
-      (g.0, subst (λ m. s ≤ m) (sym moved.made) g.1)
-
-  pub reserve_queue : (p q : Inside X) → IsQueue p → q.nodes.items ≡ p.nodes.items → q.pool.live ≡ p.pool.live → q.pool.made ≡ p.pool.made → IsQueue q
-  reserve_queue p q is nodes live made =
+  pub reserve_queue : (p q : Inside X) → IsQueue p → q.heap.nodes.items ≡ p.heap.nodes.items → q.heap.places.items ≡ p.heap.places.items → q.heap.len ≡ p.heap.len
+      → q.pool.live ≡ p.pool.live → q.pool.made ≡ p.pool.made → IsQueue q
+  reserve_queue p q is nodes places len live made =
       let entries : (s : ℕ) → entry_of q.pool s ≡ entry_of p.pool s = λ s. ap (λ l. map.get l s) live in
-      record {
-        heap = subst (λ l. IsHeap (node_at l) (length l)) (sym nodes) is.heap;
-        tied = subst (λ l. IsTied (node_at l) (length l) (λ s. map.get q.pool.live s)) (sym nodes) (subst (λ m. IsTied (node_at p.nodes.items) (length p.nodes.items) (λ s. map.get m s)) (sym live) is.tied);
-        given = λ s e at. let g = is.given s e (sym (entries s) ∙ at) in (g.0, subst (λ m. s ≤ m) (sym made) g.1);
-        few = (subst (λ m. length q.nodes.items ≤ m) (sym made) (subst (λ l. length l ≤ p.pool.made) (sym nodes) is.few.0), subst (λ m. m ≤ 16777215) (sym made) is.few.1);
+      let h = p.heap in let g = q.heap in record {
+        sound = sound_of g h.nodes.items h.len nodes len h.places.items places is.sound.order is.sound.placed is.sound.within;
+        tied = record {
+          found = λ a i. let f = is.tied.found a (in_live g h.nodes.items h.len nodes len a i) in (f.0, entries a.item.serial ∙ f.1);
+          placed = λ s e at. let f = is.tied.placed s e (sym (entries s) ∙ at) in (f.0, live_in g h.nodes.items h.len nodes len f.0 f.1, f.2);
+        };
+        given = λ s e at. let i = is.given s e (sym (entries s) ∙ at) in (i.0, subst (λ m. s ≤ m) (sym made) i.1);
+        few = (let size = ap length nodes in let few : length h.nodes.items ≤ p.pool.made = is.few.0 in omega (arith, size, few, made), subst (λ m. m ≤ 16777215) (sym made) is.few.1);
       }
 
-  -- a node comes in behind the others
-  module _ (xs ys : List Node) (k : ℕ) (p q : Contents (Entry X)) (it : Item) (r : ℤ) (x : X) (heap : IsHeap (node_at xs) (length xs)) (tied : IsTied (node_at xs) (length xs) (entry_of p))
-      (last : k ≡ length xs) (is : ys ≡ xs ++ record { priority = r; item = it } ∷ []) (ins : PoolInserts p q it (entry k r x)) where
-    same : (j : ℕ) → j < length xs → node_at ys j ≡ node_at xs j
-    same j lt = ap (λ (l : List Node). node_at l j) is ∙ get_or_append_left xs (record { priority = r; item = it } ∷ []) no_node j lt
+  -- a node and its entry come in
+  module _ (h g : Heap) (a : Node) (p q : Contents (Entry X)) (x : X) (tied : IsTied h (entry_of p)) (more : HasOneMore h g a) (ins : PoolInserts p q a.item (entry a.handle a.priority x)) where
+    new_here : (s : ℕ) → s ≡ p.made + 1 → entry_of q s ≡ Some (entry a.handle a.priority x)
+    new_here s is = ap (λ l. map.get l s) ins.live ∙ insert_here p.live (p.made + 1) (entry a.handle a.priority x) s is
 
-    at : node_at ys (length xs) ≡ record { priority = r; item = it }
-    at = ap (λ (l : List Node). node_at l (length xs)) is ∙ get_or_push xs (record { priority = r; item = it }) no_node (length xs) refl
+    new_others : (s : ℕ) → s ≢ p.made + 1 → entry_of q s ≡ entry_of p s
+    new_others s ne = ap (λ l. map.get l s) ins.live ∙ insert_apart p.live (p.made + 1) (entry a.handle a.priority x) s ne
 
-    long : length xs + 1 ≡ length ys
-    long = sym (ap length is ∙ length-append xs (record { priority = r; item = it } ∷ []))
-
-    serial : (node_at ys (length xs)).item.serial ≡ p.made + 1
-    serial = ap (λ (m : Node). m.item.serial) at ∙ ins.serial
-
-    new_here : entry_of q (p.made + 1) ≡ Some (entry k r x)
-    new_here = ap (λ l. map.get l (p.made + 1)) ins.live ∙ insert_here p.live (p.made + 1) (entry k r x) (p.made + 1) refl
-
-    pub new_others : (s : ℕ) → s ≢ p.made + 1 → entry_of q s ≡ entry_of p s
-    new_others s ne = ap (λ l. map.get l s) ins.live ∙ insert_apart p.live (p.made + 1) (entry k r x) s ne
-
-    here : entry_of q (node_at ys (length xs)).item.serial ≡ Some (entry (length xs) (node_at ys (length xs)).priority x)
-    here = ap (entry_of q) serial ∙ new_here ∙ ap (λ j. Some (entry j r x)) last ∙ ap (λ (m : Node). Some (entry (length xs) m.priority x)) (sym at)
-
-    pub in_tied : IsTied (node_at ys) (length ys) (entry_of q)
-    in_tied = subst (λ n. IsTied (node_at ys) n (entry_of q)) long (push_tied (node_at xs) (node_at ys) (length xs) (entry_of p) (entry_of q) tied same x
-        (ap (entry_of p) serial ∙ ins.fresh) here (λ s ne. new_others s (λ e. ne (e ∙ sym serial))))
-
-    pub in_but : IsHeapBut (node_at ys) (length ys) k
-    in_but = subst (λ j. IsHeapBut (node_at ys) (length ys) j) (sym last) (subst (λ n. IsHeapBut (node_at ys) n (length xs)) long (push_but (node_at xs) (node_at ys) (length xs) heap same))
-
-    pub in_low : IsLowEnough (node_at ys) (length ys) k
-    in_low = subst (λ j. IsLowEnough (node_at ys) (length ys) j) (sym last) (subst (λ n. IsLowEnough (node_at ys) n (length xs)) long (push_low (node_at xs) (node_at ys) (length xs) heap same))
+    pub in_tied : IsTied g (entry_of q)
+    in_tied = more_tied h g a (entry_of p) (entry_of q) tied (λ s ne. new_others s (λ e. ne (e ∙ sym ins.serial))) more
+        (ap (entry_of p) ins.serial ∙ ins.fresh) x (new_here a.item.serial ins.serial)
 
     pub in_given : AreGiven p → AreGiven q
-    in_given given s e at_s = ⊎_elim
+    in_given given s e at = ⊎_elim
         (λ i. let m : q.made ≡ p.made + 1 = ins.made in (omega (arith, i), omega (arith, i, m)))
-        (λ ne. let g = given s e (sym (new_others s ne) ∙ at_s) in let l : s ≤ p.made = g.1 in let m : q.made ≡ p.made + 1 = ins.made in (g.0, omega (arith, l, m))) (cases_eq s (p.made + 1))
+        (λ ne. let f = given s e (sym (new_others s ne) ∙ at) in let l : s ≤ p.made = f.1 in let m : q.made ≡ p.made + 1 = ins.made in (f.0, omega (arith, l, m))) (cases_eq s (p.made + 1))
 
-    pub in_items : (o : Contents (Entry X)) → IsMoved q o → items_of o.live ≡ map.insert (items_of p.live) (p.made + 1) (r, x)
-    in_items o moved = items_insert p.live o.live (p.made + 1) r x (moved.entries (p.made + 1) ∙ ap priced_of new_here)
-        (λ s ne. moved.entries s ∙ ap priced_of (new_others s ne))
+    pub in_items : items_of q.live ≡ map.insert (items_of p.live) (p.made + 1) (a.priority, x)
+    in_items = items_insert p.live q.live (p.made + 1) a.priority x (ap priced_of (new_here (p.made + 1) refl)) (λ s ne. ap priced_of (new_others s ne))
+
+  -- a node and its entry go
+  module _ (h g : Heap) (a : Node) (p q : Contents (Entry X)) (e : Entry X) (tied : IsTied h (entry_of p)) (less : HasOneLess h g a) (out : PoolRemoves p q a.item.serial e) where
+    gone : entry_of q a.item.serial ≡ None
+    gone = ap (λ l. map.get l a.item.serial) out.live ∙ remove_here p.live a.item.serial a.item.serial refl
+
+    old_others : (s : ℕ) → s ≢ a.item.serial → entry_of q s ≡ entry_of p s
+    old_others s ne = ap (λ l. map.get l s) out.live ∙ remove_apart p.live a.item.serial s ne
+
+    pub out_tied : IsTied g (entry_of q)
+    out_tied = less_tied h g a (entry_of p) (entry_of q) tied old_others less gone
+
+    pub out_given : AreGiven p → AreGiven q
+    out_given given s f at =
+        let ne : s ≢ a.item.serial = λ i. let twice : None ≡ Some f = sym gone ∙ ap (entry_of q) (sym i) ∙ at in cc in
+        let i = given s f (sym (old_others s ne) ∙ at) in (i.0, subst (λ m. s ≤ m) (sym out.made) i.1)
+
+    pub out_items : items_of q.live ≡ map.remove (items_of p.live) a.item.serial
+    out_items = items_remove p.live q.live a.item.serial (ap priced_of gone) (λ s ne. ap priced_of (old_others s ne))
 
   -- the first node is the least
-  pub least_first : (xs : List Node) (p : Contents (Entry X)) (spare : ℕ) → IsHeap (node_at xs) (length xs) → IsTied (node_at xs) (length xs) (entry_of p) → AreGiven p → 0 < length xs
-      → IsLeastItem (queued (items_of p.live) p.made spare) (node_at xs 0).item.serial
-  least_first xs p spare heap tied given some =
-      let n = length xs in let a = node_at xs 0 in let f = tied.found 0 some in (
+  pub least_first : (h : Heap) (p : Contents (Entry X)) (spare : ℕ) → IsSound h → IsTied h (entry_of p) → AreGiven p → 0 < h.len
+      → IsLeastItem (queued (items_of p.live) p.made spare) (node_at h.nodes.items 0).item.serial
+  least_first h p spare sound tied given some =
+      let at = node_at h.nodes.items in let a = at 0 in let f = tied.found a (0, some, refl) in (
         a.priority,
         f.0,
         record {
-          held = (let g = given a.item.serial (entry 0 a.priority f.0) f.1 in (get_items p.live a.item.serial ∙ ap priced_of f.1, g.0, g.1));
+          held = (let i = given a.item.serial (entry a.handle a.priority f.0) f.1 in (get_items p.live a.item.serial ∙ ap priced_of f.1, i.0, i.1));
           least = λ t r y is.
-              let e = some_entry (entry_of p t) (r, y) (sym (get_items p.live t) ∙ is) in let at = tied.placed t e.0 e.1 in
-              let g = tied.found e.0.place at.0 in
-              let pair : Some (r, y) ≡ Some ((node_at xs e.0.place).priority, g.0) = sym is ∙ get_items p.live t ∙ ap (λ j. priced_of (entry_of p j)) (sym at.1) ∙ ap priced_of g.1 in
-              let pr : (node_at xs e.0.place).priority ≡ r = ap (λ (o : Option (ℤ × X)). priority_or r o) (sym pair) in
-              subst (λ z. AtMost a.priority a.item.serial z t) pr (subst (λ z. AtMost a.priority a.item.serial (node_at xs e.0.place).priority z) at.1
-              (first_least (node_at xs) n heap n e.0.place at.0 at.0));
+              let e = some_entry (entry_of p t) (r, y) (sym (get_items p.live t) ∙ is) in let b = tied.placed t e.0 e.1 in let g = tied.found b.0 b.1 in
+              let pair : Some (r, y) ≡ Some (b.0.priority, g.0) = sym is ∙ get_items p.live t ∙ ap (λ j. priced_of (entry_of p j)) (sym b.2) ∙ ap priced_of g.1 in
+              let pr : b.0.priority ≡ r = ap (λ (o : Option (ℤ × X)). priority_or r o) (sym pair) in
+              subst (λ z. AtMost a.priority a.item.serial z t) pr (subst (λ z. AtMost a.priority a.item.serial b.0.priority z) b.2
+              (subst (λ (m : Node). AtMost a.priority a.item.serial m.priority m.item.serial) b.1.2 (first_least at h.len sound.order h.len b.1.0 b.1.1 b.1.1)));
         },
       )
 
-  -- the node of an entry has its priority
-  pub priority_at : (A : ℕ → Node) (n : ℕ) (G : ℕ → Option (Entry X)) → IsTied A n G → (s : ℕ) (e : Entry X) → G s ≡ Some e → (A e.place).priority ≡ e.priority
-  priority_at A n G tied s e is = let at = tied.placed s e is in let f = tied.found e.place at.0 in
-      let pair : Some ((A e.place).priority, f.0) ≡ Some (e.priority, e.inf) = sym (ap priced_of f.1) ∙ ap (λ j. priced_of (G j)) at.1 ∙ ap priced_of is in
-      ap (λ (o : Option (ℤ × X)). priority_or e.priority o) pair
-
-  pub given_lowered : (p q : Contents (Entry X)) (s : ℕ) (r : ℤ) (x : Entry X) → entry_of p s ≡ Some x → IsLowered p q s r → AreGiven p → AreGiven q
-  given_lowered p q s r x had low given t e is = ⊎_elim
-      (λ same. let g = given s x had in (subst (λ j. 0 < j) (sym same) g.0, subst (λ m. t ≤ m) (sym low.made) (subst (λ j. j ≤ p.made) (sym same) g.1)))
-      (λ ne. let old = some_entry (entry_of p t) (priced e) (sym (low.others t ne) ∙ ap priced_of is) in let g = given t old.0 old.1 in
-      (g.0, subst (λ m. t ≤ m) (sym low.made) g.1)) (cases_eq t s)
-
   -- and it is what a removal of the first node answers
-  pub least_taken : (xs : List Node) (p q : Contents (Entry X)) (e : Entry X) (spare : ℕ) → IsHeap (node_at xs) (length xs) → IsTied (node_at xs) (length xs) (entry_of p) → AreGiven p → 0 < length xs
-      → IsTaken p q (node_at xs 0).item.serial e → IsLeast (queued (items_of p.live) p.made spare) (node_at xs 0).item.serial e.priority e.inf
-  least_taken xs p q e spare heap tied given some taken =
-      let l = least_first xs p spare heap tied given some in let s = (node_at xs 0).item.serial in
-      let pair : Some (l.0, l.1) ≡ Some (priced e) = sym l.2.held.0 ∙ get_items p.live s ∙ taken.had in
+  pub least_taken : (h : Heap) (p : Contents (Entry X)) (e : Entry X) (spare : ℕ) → IsSound h → IsTied h (entry_of p) → AreGiven p → 0 < h.len
+      → entry_of p (node_at h.nodes.items 0).item.serial ≡ Some e → IsLeast (queued (items_of p.live) p.made spare) (node_at h.nodes.items 0).item.serial e.priority e.inf
+  least_taken h p e spare sound tied given some is =
+      let l = least_first h p spare sound tied given some in let s = (node_at h.nodes.items 0).item.serial in
+      let pair : Some (l.0, l.1) ≡ Some (priced e) = sym l.2.held.0 ∙ get_items p.live s ∙ ap priced_of is in
       subst (λ (o : Option (ℤ × X)). IsLeast (queued (items_of p.live) p.made spare) s (pair_or (priced e) o).0 (pair_or (priced e) o).1) pair l.2
+
+  pub rate_entry : (p : Contents (Entry X)) (s : ℕ) (r : ℤ) (now : Entry X) → entry_of p s ≡ Some now
+      → IsRated p (contents (map.insert p.live s (entry now.handle r now.inf)) p.made p.spare) s r
+  rate_entry p s r now is = record {
+    here = λ e at. insert_here p.live s (entry now.handle r now.inf) s refl
+        ∙ ap (λ (o : Option (Entry X)). Some (entry (entry_or now o).handle r (entry_or now o).inf)) (sym is ∙ at);
+    others = λ t ne. insert_apart p.live s (entry now.handle r now.inf) t ne;
+    made = refl;
+    spare = refl;
+  }
+
+  -- the entry of a node gets the priority r, and so does the node
+  module _ (h g : Heap) (a : Node) (p q : Contents (Entry X)) (r : ℤ) (e : Entry X) (tied : IsTied h (entry_of p)) (low : HasOneLower h g a r) (had : entry_of p a.item.serial ≡ Some e) (rated : IsRated p q a.item.serial r) where
+    pub low_tied : IsTied g (entry_of q)
+    low_tied = let f = tied.found a low.held in
+        lower_tied h g a (entry_of p) (entry_of q) tied rated.others r low f.0 (rated.here (entry a.handle a.priority f.0) f.1)
+
+    pub low_given : AreGiven p → AreGiven q
+    low_given given t f at = ⊎_elim
+        (λ same. let i = given a.item.serial e had in (subst (λ j. 0 < j) (sym same) i.0, subst (λ m. t ≤ m) (sym rated.made) (subst (λ j. j ≤ p.made) (sym same) i.1)))
+        (λ ne. let i = given t f (sym (rated.others t ne) ∙ at) in (i.0, subst (λ m. t ≤ m) (sym rated.made) i.1)) (cases_eq t a.item.serial)
+
+    pub low_items : items_of q.live ≡ map.insert (items_of p.live) a.item.serial (r, e.inf)
+    low_items = items_insert p.live q.live a.item.serial r e.inf (ap priced_of (rated.here e had)) (λ t ne. ap priced_of (rated.others t ne))

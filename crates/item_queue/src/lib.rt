@@ -9,9 +9,10 @@
 //!
 //! - `node`: what a heap is made of, and the order of its nodes: by priority, and then by serial.
 //! - `heap`: the binary tree of nodes, laid out by levels in a vector, with the steps that mend it. A node has its
-//!   priority and its item, so that nodes are compared with no look into the pool.
-//! - `queue`: the heap beside a `Pool`, which has the place, the priority and the information of each item. The pool
-//!   follows each move of a node, and so an item leads to its node in one step.
+//!   priority and its item, so that nodes are compared with no look into the pool, and a handle, by which its place is
+//!   found.
+//! - `queue`: the heap beside a `Pool`, which has the handle, the priority and the information of each item. An entry
+//!   stays as it is when its node moves, and leads to it in two steps.
 //!
 //! A look takes constant time (the pool's table answers in constant expected time where an item's slot is wrong). An
 //! insertion, a lowering and a removal take logarithmic time. `insert`, `reserve` and `items` alone take memory; after
@@ -27,6 +28,8 @@ mod queue;
 #[cfg(test)]
 mod tests;
 
+#[doc(hidden)]
+pub use heap::Heap;
 pub use item_pool::{Gone, InsertRefusal, Item};
 pub use leda_base::{NoMemory, Row};
 #[doc(hidden)]

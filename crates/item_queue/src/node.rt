@@ -6,17 +6,19 @@ ghost use Rattle.item_queue.specs.Order.{IsBelow, IsAtMost, IsInOrder};
 use item_pool::Item;
 use std::alloc::{AllocError, Global};
 
-/// A place of the heap. It has the priority of its item, so that nodes are compared with no look into the pool.
+/// A node of the heap. It has the priority of its item, so that nodes are compared with no look into the pool, and a
+/// handle by which its place is found.
 #[derive(Clone, Copy, Drop)]
 pub struct Node {
     pub priority: i64,
     pub item: Item,
+    pub handle: u32,
 }
 
-/// What the pool has of an item: its place in the heap, its priority and its information.
+/// What the pool has of an item: the handle of its node, its priority and its information.
 #[derive(Drop)]
 pub struct Entry<I> {
-    pub place: u32,
+    pub handle: u32,
     pub priority: i64,
     pub inf: I,
 }

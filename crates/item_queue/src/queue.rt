@@ -1,9 +1,10 @@
 //! The queue.
 ghost use Rattle.std.specs.Prelude.{◌≡◌, ℕ, ◌+◌, ◌<◌, ◌≤◌, ◌<ℤ◌, ◌≤ℤ◌, length, OnOk, OnErr, IfOk, IfErr, IsOk, MatchOption, MatchResult};
 ghost use Rattle.std.specs.FinMap as map;
+ghost use Rattle.item_queue.specs.Heap.{IsRated};
 ghost use Rattle.item_queue.specs.Contents.{Queued, queued, Holds, Lacks, HoldsPriority, HoldsInformation, ChangesInformation, IsLeastItem, IsAsBefore, Inserts, Refuses, RemovesItem};
 
-use crate::heap::{lower, sift_up, take_at};
+use crate::heap::Heap;
 use crate::node::{Entry, Node, items_of, sorted};
 use item_pool::{Gone, InsertRefusal, Item, MOST_SERIALS, Pool};
 use leda_base::{NoMemory, Row};
@@ -27,7 +28,7 @@ pub enum DecreaseRefusal {
 /// first.
 #[derive(Drop)]
 pub struct Queue<I> {
-    nodes: Vec<Node>,
+    heap: Heap,
     pool: Pool<Entry<I>>,
 }
 
@@ -54,7 +55,7 @@ impl<I: Drop> Queue<I> {
         ensures { result ≡ queued map.empty 0 0 }
     {
         Queue {
-            nodes: Vec::new(alloc),
+            heap: Heap::new(alloc),
             pool: Pool::new(alloc),
         }
     }
@@ -71,7 +72,7 @@ impl<I: Drop> Queue<I> {
         ensures ok { OnOk result (n ≤ self.new.spare) }
         ensures succeeds { n ≤ self.old.spare → IsOk result }
     {
-        if self.nodes.reserve(n as usize).is_err() || self.pool.reserve(n).is_err() {
+        if self.heap.reserve(n).is_err() || self.pool.reserve(n).is_err() {
             return Err(NoMemory);
         }
         Ok(())
@@ -84,14 +85,17 @@ impl<I: Drop> Queue<I> {
         requires made { self.old.made < 16777215 }
         ensures { Inserts self.old self.new result p i }
     {
-        let place = self.nodes.len();
+        let handle = self.heap.next_handle();
         let item = self.pool.insert_reserved(Entry {
-            place: place as u32,
+            handle,
             priority: p,
             inf: i,
         });
-        self.nodes.push_reserved(Node { priority: p, item });
-        sift_up(self.nodes.as_mut_slice(), &mut self.pool, place);
+        self.heap.insert(Node {
+            priority: p,
+            item,
+            handle,
+        });
         item
     }
 
@@ -119,10 +123,10 @@ impl<I: Drop> Queue<I> {
     pub fn find_min(&self) -> Option<Item>
         ensures { MatchOption result (self.now.live ≡ map.empty) (λ it. IsLeastItem self.now it.serial) }
     {
-        if self.nodes.len() == 0 {
+        if self.heap.len == 0 {
             return None;
         }
-        Some(self.nodes[0].item)
+        Some(self.heap.nodes.as_slice()[0].item)
     }
 
     /// The priority of an item.
@@ -174,14 +178,16 @@ impl<I: Drop> Queue<I> {
     pub fn decrease_p(&mut self, it: Item, p: i64) -> Result<(), DecreaseRefusal>
         ensures { MatchResult result (λ _. Decreases self.old self.new it.serial p) (λ why. RefusesDecrease self.old it.serial p why × (self.new ≡ self.old)) }
     {
-        let (place, priority) = match self.pool.get(it) {
-            Ok(entry) => (entry.place as usize, entry.priority),
+        let (handle, priority) = match self.pool.get(it) {
+            Ok(entry) => (entry.handle, entry.priority),
             Err(gone) => return Err(DecreaseRefusal::Gone(gone)),
         };
         if priority < p {
             return Err(DecreaseRefusal::Larger(priority));
         }
-        lower(self.nodes.as_mut_slice(), &mut self.pool, place, p);
+        let place = self.heap.place_of(handle);
+        self.heap.lower(place, p);
+        rate(&mut self.pool, it, p);
         Ok(())
     }
 
@@ -190,15 +196,20 @@ impl<I: Drop> Queue<I> {
     pub fn del_min(&mut self) -> Option<(i64, I)>
         ensures { MatchOption result ((self.old.live ≡ map.empty) × (self.new ≡ self.old)) (λ r. RemovesLeast self.old self.new r.0 r.1) }
     {
-        if self.nodes.len() == 0 {
+        if self.heap.len == 0 {
             return None;
         }
-        let Entry {
-            place: _,
-            priority,
-            inf,
-        } = take_at(&mut self.nodes, &mut self.pool, 0);
-        Some((priority, inf))
+        let node = self.heap.take_at(0);
+        match self.pool.remove(node.item) {
+            Ok(
+                Entry {
+                    handle: _,
+                    priority,
+                    inf,
+                },
+            ) => Some((priority, inf)),
+            Err(_) => unreachable!(),
+        }
     }
 
     /// Takes an item out, and answers its information. The work is logarithmic in the number of items.
@@ -209,15 +220,13 @@ impl<I: Drop> Queue<I> {
     pub fn del_item(&mut self, it: Item) -> Result<I, Gone>
         ensures { MatchResult result (λ x. RemovesItem self.old self.new it.serial x) (λ why. Lacks self.old it.serial why × (self.new ≡ self.old)) }
     {
-        let place = match self.pool.get(it) {
-            Ok(entry) => entry.place as usize,
-            Err(gone) => return Err(gone),
-        };
         let Entry {
-            place: _,
+            handle,
             priority: _,
             inf,
-        } = take_at(&mut self.nodes, &mut self.pool, place);
+        } = self.pool.remove(it)?;
+        let place = self.heap.place_of(handle);
+        let _node = self.heap.take_at(place);
         Ok(inf)
     }
 
@@ -229,7 +238,7 @@ impl<I: Drop> Queue<I> {
     pub fn items(&self, alloc: Global) -> Result<Row<Item>, NoMemory>
         ensures { IfOk result (λ row. IsListing self.now (serials_of row)) }
     {
-        let nodes = sorted(self.nodes.as_slice(), alloc)?;
+        let nodes = sorted(self.heap.live(), alloc)?;
         let items = items_of(nodes.as_slice(), alloc)?;
         Ok(Row::from_vec(items))
     }
@@ -256,12 +265,21 @@ impl<I: Drop> Queue<I> {
     pub fn spare(&self) -> u32
         ensures { result ≡ self.now.spare }
     {
-        let places = self.nodes.capacity() - self.nodes.len();
+        let nodes = self.heap.room();
         let values = self.pool.spare();
-        if places < values as usize {
-            places as u32
+        if nodes < values as usize {
+            nodes as u32
         } else {
             values
         }
+    }
+}
+
+/// Writes a priority into an entry.
+fn rate<I>(pool: &mut Pool<Entry<I>>, item: Item, priority: i64)
+    ensures { IsRated pool.old pool.new item.serial priority }
+{
+    if let Ok(entry) = pool.get_mut(item) {
+        entry.priority = priority;
     }
 }

@@ -1,39 +1,58 @@
-use Rattle.std.proofs.Common.{rules, w64, ◌≡◌, ◌-◌, ◌<◌, ◌≤◌, length, min, sym, ap, ◌∙◌, subst, refl, arith}
+use Rattle.std.proofs.Common.{rules, w64, ◌≡◌, ◌<◌, ◌≤◌, length, min, Some, None, sym, ap, ◌∙◌, subst, refl, arith}
 use Rattle.std.specs.Prelude.{FitsSigned}
 use Rattle.std.proofs.lemmas.Int.{to_z-of_z}
-use Rattle.std.specs.Vec.{vec_len, vec_capacity}
-use Rattle.item_queue.specs.Heap.{node_at, entry_of, priced_of, IsTaken}
+use Rattle.item_pool.specs.Contents.{Removes as PoolRemoves}
+use Rattle.item_queue.specs.declared.node.Node.{Node}
+use Rattle.item_queue.specs.Heap.{node_at, entry, entry_of, heap_room}
 use Rattle.item_queue.specs.Contents.{Queued, queued}
 use Rattle.item_queue.specs.Decreases.{RemovesLeast}
 use Rattle.item_queue.specs.IsQueue.{items_of}
-use Rattle.item_queue.proofs.Items.{get_items, items_remove, items_empty}
-use Rattle.item_queue.proofs.Queues.{least_taken}
-use Rattle.item_queue.proofs.Changes.{tied_none}
+use Rattle.item_queue.proofs.Items.{items_empty}
+use Rattle.item_queue.proofs.Queues.{least_taken, out_tied, out_given, out_items}
+use Rattle.item_queue.proofs.Ties.{tied_none}
 use Rattle.item_queue.proofs.queue.Queue.del_min.Goals as goal
 
-pub returns-then-len-eq0 : goal.returns-then-len-eq0
-returns-then-len-eq0 g c =
-    let p = c.self.inside.pool in let v = c.self.inside.nodes in let xs = v.items in
-    let ok : vec_len v ≡ length xs = v.ok.0 in let none : length xs ≡ 0 = let z = c.if-len-eq0.true in let l = c.len.ensures in omega (arith, ok, l, z) in
-    (ap (λ (q : Queued g.row.I.Denot). q.live) (sym c.self.view_is) ∙ items_empty p.live (tied_none (node_at xs) (length xs) (entry_of p) c.self.invariant.tied none), refl)
+pub returns-then-self-eq0 : goal.returns-then-self-eq0
+returns-then-self-eq0 g c =
+    let p = c.self.inside.pool in
+    (ap (λ (q : Queued g.row.I.Denot). q.live) (sym c.self.view_is) ∙ items_empty p.live (tied_none c.self.inside.heap (entry_of p) c.self.invariant.tied c.if-self-eq0.true), refl)
+
+pub unreachable-requires : goal.unreachable-requires
+unreachable-requires g c =
+    let f = c.self.inside in let a = c.take_at-node.result in let t = c.self.invariant.tied.found (node_at f.heap.nodes.items 0) c.take_at-node.ensures.less.held in
+    let m = node_at f.heap.nodes.items 0 in
+    let twice : None ≡ Some (entry m.handle m.priority t.0) = sym c.in-Err.ensures.0.0 ∙ ap (λ (b : Node). entry_of f.pool b.item.serial) c.take_at-node.ensures.taken ∙ t.1 in cc
+
+pub invariant_of-self : goal.invariant_of-self
+invariant_of-self g c =
+    let f = c.self.inside in let i = c.self.invariant in let h = c.take_at-node.new.self in let q = c.remove.new.self in let e = c.in-Ok.field-0 in let m = node_at f.heap.nodes.items 0 in
+    let out : PoolRemoves f.pool q m.item.serial e = subst (λ (b : Node). PoolRemoves f.pool q b.item.serial e) c.take_at-node.ensures.taken c.in-Ok.ensures in
+    let less = c.take_at-node.ensures.less in let long : length h.nodes.items ≡ length f.heap.nodes.items = c.take_at-node.ensures.long.0.nodes in
+    let few : length f.heap.nodes.items ≤ f.pool.made = i.few.0 in let most : f.pool.made ≤ 16777215 = i.few.1 in let made : q.made ≡ f.pool.made = out.made in
+    record {
+      sound = c.take_at-node.ensures.sound;
+      tied = out_tied f.heap h m f.pool q e i.tied less out;
+      given = out_given f.heap h m f.pool q e i.tied less out i.given;
+      few = (omega (arith, long, few, made), omega (arith, most, made));
+    }
 
 pub returns : goal.returns
 returns g c =
-    let f = c.self.inside in let i = c.self.invariant in let v' = f.nodes in let xs = v'.items in let s = (node_at xs 0).item.serial in
-    let ok : vec_len v' ≡ length xs = v'.ok.0 in let some : 0 < length xs = let z = c.if-len-eq0.false in let l = c.len.ensures in omega (arith, ok, l, z) in
-    let q = c.take_at-priority.new.pool in let e = c.take_at-priority.result in let taken : IsTaken f.pool q s e = c.take_at-priority.ensures.taken in
-    let least = least_taken xs f.pool q e (min f.pool.spare (vec_capacity v' - vec_len v')) i.heap i.tied i.given some taken in
+    let f = c.self.inside in let i = c.self.invariant in let h = c.take_at-node.new.self in let q = c.remove.new.self in let e = c.in-Ok.field-0 in let m = node_at f.heap.nodes.items 0 in
+    let out : PoolRemoves f.pool q m.item.serial e = subst (λ (b : Node). PoolRemoves f.pool q b.item.serial e) c.take_at-node.ensures.taken c.in-Ok.ensures in
+    let less = c.take_at-node.ensures.less in let z = c.if-self-eq0.false in let some : 0 < f.heap.len = omega (arith, z) in
+    let least = least_taken f.heap f.pool e (min f.pool.spare (heap_room f.heap)) i.sound i.tied i.given some out.held.0 in
     let fits : FitsSigned w64 e.priority = search rules in
-    let more : f.pool.spare ≤ q.spare = taken.spare in let size = c.take_at-priority.ensures.room.0 in let room = c.take_at-priority.ensures.room.1 in let v = c.take_at-priority.new.nodes in
-    let after : Queued g.row.I.Denot = queued (items_of q.live) q.made (min q.spare (vec_capacity v - vec_len v)) in
+    let after : Queued g.row.I.Denot = queued (items_of q.live) q.made (min q.spare (heap_room h)) in
+    let more : f.pool.spare ≤ q.spare = out.spare in let room = c.take_at-node.ensures.long.0.room in let size = c.take_at-node.ensures.long.1 in let fewer = room.0 in let less_places = room.1 in
     subst (λ z. RemovesLeast c.args.self.now after z e.inf) (sym (to_z-of_z w64 e.priority fits))
     (subst (λ (o : Queued g.row.I.Denot). RemovesLeast o after e.priority e.inf) c.self.view_is (
-      s,
+      m.item.serial,
       least,
       record {
-        held = (get_items f.pool.live s ∙ taken.had, least.held.1, least.held.2);
-        live = items_remove f.pool.live q.live s (ap priced_of taken.gone) taken.others;
-        made = taken.made;
-        spare = omega (arith, more, size, room);
+        held = least.held;
+        live = out_items f.heap h m f.pool q e i.tied less out;
+        made = out.made;
+        spare = omega (arith, more, fewer, less_places, size);
       },
     ))
