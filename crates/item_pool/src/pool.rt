@@ -1,5 +1,5 @@
 //! The pool: cells of live values, a chain of free cells, and a table from serials to slots.
-ghost use Rattle.std.specs.Prelude.{◌≡◌, ℕ, ◌+◌, ◌*◌, ◌<◌, ◌≤◌, ◌^◌, get_or, slice_set, length, Some, None, OnOk, OnErr, IfOk, IfErr, MatchResult, IsOk, IsSome};
+ghost use Rattle.std.specs.Prelude.{◌≡◌, ℕ, ◌+◌, ◌*◌, ◌<◌, ◌≤◌, ◌^◌, get_or, slice_set, length, Some, None, OnOk, OnErr, IfOk, IfErr, MatchResult, MatchOption, IsOk, IsSome, IsTrue, ◌↔◌};
 ghost use Rattle.std.specs.Borrow.{sem};
 ghost use Rattle.std.specs.FinMap as map;
 ghost use Rattle.item_pool.specs.Chained.{blank};
@@ -7,6 +7,7 @@ ghost use Rattle.item_pool.specs.CellsKept.{cell_at, IsChain, IsLive, IsGrown};
 ghost use Rattle.item_pool.specs.Table.{slot_of};
 ghost use Rattle.item_pool.specs.Contents.{contents, IsAsBefore, IsWithin, Holds, HasLive, Lacks, Inserts, Refuses, Removes, WhyGone};
 
+use crate::block::Cell;
 use crate::cells::{Cells, FIRST_BLOCK};
 use crate::table::Table;
 use std::alloc::Global;
@@ -84,6 +85,20 @@ impl<T> Model for Pool<T> {
     ghost invariant = { λ p. IsPool p };
 }
 
+/// Whether the item's slot is the right one.
+#[inline]
+fn is_there<T>(cells: &Cells<T>, len: u32, it: Item) -> bool
+    requires { len ≡ length cells.now }
+    ensures { IsTrue result ↔ (it.slot < length cells.now) × ((cell_at cells.now it.slot).number ≡ it.serial) × IsSome (cell_at cells.now it.slot).value }
+{
+    if it.slot < len {
+        let cell = cells.get(it.slot);
+        cell.number == it.serial && cell.value.is_some()
+    } else {
+        false
+    }
+}
+
 /// The slot of a live value. Where the item's slot is the right one, the table isn't asked.
 #[inline]
 fn find<T>(cells: &Cells<T>, table: &Table, len: u32, it: Item) -> Option<u32>
@@ -91,13 +106,28 @@ fn find<T>(cells: &Cells<T>, table: &Table, len: u32, it: Item) -> Option<u32>
     requires listed { (i s : ℕ) (x : T) → IsLive (cell_at cells.now) i s x → slot_of table.now s ≡ Some i }
     ensures { result ≡ slot_of table.now it.serial }
 {
-    if it.slot < len {
-        let cell = cells.get(it.slot);
-        if cell.number == it.serial && cell.value.is_some() {
-            return Some(it.slot);
-        }
+    if is_there(cells, len, it) {
+        Some(it.slot)
+    } else {
+        table.get(it.serial)
     }
-    table.get(it.serial)
+}
+
+/// The cell of a live value, likewise. Where the item's slot is the right one, its place is worked out only once.
+#[inline]
+fn look<'a, T>(cells: &'a Cells<T>, table: &Table, len: u32, it: Item) -> Option<&'a Cell<T>>
+    requires len { len ≡ length cells.now }
+    requires within { (s i : ℕ) → slot_of table.now s ≡ Some i → i < length cells.now }
+    requires listed { (i s : ℕ) (x : T) → IsLive (cell_at cells.now) i s x → slot_of table.now s ≡ Some i }
+    ensures { MatchOption result (slot_of table.now it.serial ≡ None) (λ cell. (i : ℕ) × (slot_of table.now it.serial ≡ Some i) × (cell.now ≡ cell_at cells.now i)) }
+{
+    if is_there(cells, len, it) {
+        return Some(cells.get(it.slot));
+    }
+    match table.get(it.serial) {
+        Some(slot) => Some(cells.get(slot)),
+        None => None,
+    }
 }
 
 /// Why no value has the serial, where none has.
@@ -260,8 +290,8 @@ impl<T> Pool<T> {
     pub fn get(&self, it: Item) -> Result<&T, Gone>
         ensures { MatchResult result (λ v. Holds self.now it.serial v.now) (λ why. Lacks self.now it.serial why) }
     {
-        match find(&self.cells, &self.table, self.free + self.live, it) {
-            Some(slot) => match self.cells.get(slot).value.as_ref() {
+        match look(&self.cells, &self.table, self.free + self.live, it) {
+            Some(cell) => match cell.value.as_ref() {
                 Some(value) => Ok(value),
                 None => unreachable!(),
             },

@@ -6,14 +6,14 @@ use Rattle.item_pool.proofs.pool.Pool.get.Goals as goal
 
 pub returns-in-Some-as_ref : goal.returns-in-Some-as_ref
 returns-in-Some-as_ref g c =
-    let p = c.self.inside in let t = slot_of p.table in let s = c.args.it.serial in let i = c.in-Some.slot in
-    let e : t s ≡ Some i = sym c.in-Some.ensures in let low = c.self.invariant.table.given s i e in
+    let p = c.self.inside in let t = slot_of p.table in let s = c.args.it.serial in let f = c.in-Some.ensures in
+    let e : t s ≡ Some f.0 = f.1 in let low = c.self.invariant.table.given s f.0 e in
     let x = c.in-Some-as_ref.value.now in
     subst (λ (o : Contents g.row.T.Denot). Holds o s x) c.self.view_is
-    (seen_some p.cells t p.made c.self.invariant.table s i e ∙ sym (c.in-Some-as_ref.ensures.value ∙ ap (λ k. k.value) c.get.ensures), low.0, low.1)
+    (seen_some p.cells t p.made c.self.invariant.table s f.0 e ∙ sym (c.in-Some-as_ref.ensures.value ∙ ap (λ k. k.value) f.2), low.0, low.1)
 
 pub returns-in-None : goal.returns-in-None
 returns-in-None g c =
     let p = c.self.inside in let t = slot_of p.table in let s = c.args.it.serial in
-    let e : t s ≡ None = sym c.in-None.ensures in
+    let e : t s ≡ None = c.in-None.ensures in
     subst (λ (o : Contents g.row.T.Denot). Lacks o s c.why_gone.result) c.self.view_is (seen_none p.cells t p.made c.self.invariant.table s e, c.why_gone.ensures)
