@@ -1,5 +1,5 @@
 //! Homes: a serial's last bits say where it may lie with its slot, and one serial can lie there.
-ghost use Rattle.std.specs.Prelude.{◌≡◌, ℕ, ◌%◌, ◌<◌, length, ◌↔◌, Some, None, OnOk, IsTrue, IsFalse, IsSome};
+ghost use Rattle.std.specs.Prelude.{◌≡◌, ℕ, ◌*◌, ◌%◌, ◌<◌, length, nat_eq, if◌then◌else◌, ◌↔◌, Some, None, OnOk, IsTrue, IsFalse, IsSome};
 ghost use Rattle.std.specs.Int.{IsPowerOfTwo};
 ghost use Rattle.item_pool.specs.Homes.{at_home, IsFree};
 ghost use Rattle.item_pool.specs.Lookups.{Sets};
@@ -125,7 +125,7 @@ impl Homes {
     /// the two that is, and the other is free.
     fn double(&mut self) -> Result<(), AllocError>
         ensures kept { (s : ℕ) → at_home self.new s ≡ at_home self.old s }
-        ensures ok { OnOk result (length self.old < length self.new) }
+        ensures ok { OnOk result (length self.new ≡ (if nat_eq (length self.old) 0 then 64 else 2 * length self.old)) }
     {
         if self.places.is_empty() {
             self.places.resize(FIRST_HOMES, NOBODY)
