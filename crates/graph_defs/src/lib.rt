@@ -12,10 +12,18 @@
 
 mod adjacency;
 mod answer;
+mod dart;
 mod laws;
 mod net;
+mod plain;
+mod query;
+mod verdict;
 
 pub use adjacency::Adjacency;
 pub use answer::Reach;
+pub use dart::Dart;
 pub use laws::closed_set_excludes_walks;
 pub use net::{ARC_LIMIT, NODE_LIMIT, Net};
+pub use plain::{PlainEdge, PlainGraph, TextKind};
+pub use query::{Kept, Mode};
+pub use verdict::{Cond, Verdict};
