@@ -1,4 +1,9 @@
-pub mod Adjacency
+pub mod Count
+pub mod Dart
+pub mod Grouped
 pub mod Layout
 pub mod Net
+pub mod Set
+pub mod Sum
+pub mod Verdict
 pub mod Walk

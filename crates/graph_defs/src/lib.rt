@@ -10,18 +10,18 @@
 //! what the answer shows.
 #![tactic(auto)]
 
-mod adjacency;
 mod answer;
 mod dart;
+mod grouped;
 mod laws;
 mod net;
 mod plain;
 mod query;
 mod verdict;
 
-pub use adjacency::Adjacency;
 pub use answer::Reach;
 pub use dart::Dart;
+pub use grouped::{Grouped, Incidence};
 pub use laws::closed_set_excludes_walks;
 pub use net::{ARC_LIMIT, NODE_LIMIT, Net};
 pub use plain::{PlainEdge, PlainGraph, TextKind};
