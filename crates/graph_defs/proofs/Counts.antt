@@ -26,7 +26,8 @@ times_has x (y ∷ xs) h = elim (cases_eq x y) [
   | inr ne ↦ (let t = times_other x y xs ne in
       let r = times_has x xs (omega arith) in
       let l : r.0 < length xs = r.1 in
-      (suc r.0, omega arith, r.2)) ]
+      (suc r.0, omega arith, r.2))
+]
 
 pub has_times : (x : ℕ) (xs : List ℕ) (k : ℕ) → k < length xs → get_or xs k 0 ≡ x → 1 ≤ times x xs
 has_times x [] k l e = absurd (omega arith)

@@ -37,4 +37,5 @@ pub in_has : (set : List ℕ) (node : ℕ) → is_in set node ≡ true → (k : 
 in_has [] node e = absurd (true≢false (sym e))
 in_has (member ∷ set) node e = elim (in_or (eqb member node) (is_in set node) e) [
   | inl here ↦ (0, omega arith, eqb-true member node here)
-  | inr later ↦ (let h = in_has set node later in let l : h.0 < length set = h.1 in (suc h.0, omega arith, h.2)) ]
+  | inr later ↦ (let h = in_has set node later in let l : h.0 < length set = h.1 in (suc h.0, omega arith, h.2))
+]

@@ -8,7 +8,8 @@ use Rattle.graph_defs.specs.Verdict.{IsFirst, Finds}
 pub below_more : (P : ℕ → Type 0) (n : ℕ) → ((v : ℕ) → v < n → P v) → P n → (v : ℕ) → v < n + 1 → P v
 below_more P n before here v l = elim (cases_lt v n) [
   | inl h ↦ before v h
-  | inr h ↦ (let e : n ≡ v = omega arith in subst P e here) ]
+  | inr h ↦ (let e : n ≡ v = omega arith in subst P e here)
+]
 
 -- a pass that found none
 pub none_holds : (P : ℕ → Type 0) (found : Option ℕ) → found ≡ None → Finds P found → (place : ℕ) → P place

@@ -1,3 +1,5 @@
+//! The answers to questions on nets.
+
 use leda_base::Row;
 
 /// Whether a walk leads from a node v to a node w.

@@ -1,13 +1,20 @@
 //! Nets, the answers to questions on them, and what makes an answer true.
 //!
-//! Nothing here knows of commands or items: a net is a number of nodes and a list of arcs, both numbered from 0,
-//! and an answer names nodes and arcs by these numbers. `specs/` says of each answer when it is right, in the
-//! field's terms: `Net.antt` has valid nets, `Walk.antt` walks and closed sets. `Adjacency.antt` says which arcs
-//! leave a node: a search goes over an `Adjacency`, which has them row by row.
+//! Nothing here knows of commands or items: a net is a number of nodes and a list of arcs, both
+//! numbered from 0, and an answer names nodes and arcs by these numbers. `specs/` has the words
+//! that every search, checker and law is stated with, in the field's terms:
 //!
-//! A new kind of answer gets a type in `answer`, a file of `specs/` that says when it is right of a net, and, where
-//! it is more than a fact that can be read off, a law in `laws`: a function with an empty body whose contract says
-//! what the answer shows.
+//! - `Net.antt`: valid nets, the source and the target of an arc;
+//! - `Count.antt` and `Sum.antt`: how often a number stands in a list; sums below a number;
+//! - `Set.antt`: sets of nodes with a test that computes, the arcs that leave them, cuts;
+//! - `Walk.antt`: walks along any steps, those along arcs, and the sets that no arc leaves;
+//! - `Dart.antt`: the two halves of an edge by their numbers, and walks along darts;
+//! - `Grouped.antt`: pairs of numbers in rows by their keys, which searches go over;
+//! - `Verdict.antt`: what the verdict of a checker says, whatever its conditions are.
+//!
+//! A new kind of answer gets a type in `answer`, a file of `specs/` that says when it is right of a
+//! net, and, where it is more than a fact that can be read off, a law in `laws`: a function with an
+//! empty body whose contract says what the answer shows.
 #![tactic(auto)]
 
 mod answer;

@@ -1,4 +1,4 @@
-// A directed graph by numbers.
+//! A directed graph by numbers.
 ghost use Rattle.std.specs.Prelude.{◌↔◌, ◌<◌, All, IsTrue};
 ghost use Rattle.graph_defs.specs.Net.{Ends, IsValid};
 
@@ -12,8 +12,9 @@ pub const ARC_LIMIT: u32 = 400_000;
 
 /// A directed graph by numbers: nodes 0 to `n - 1`, and arc k from `arcs[k].0` to `arcs[k].1`.
 ///
-/// Arcs may be parallel, and an arc may be a loop. A net is valid where every end is below `n`, `n` is at most
-/// 100,000 and there are at most 400,000 arcs; every call that takes a net asks that it is valid.
+/// Arcs may be parallel, and an arc may be a loop. A net is valid where every end is below `n`, `n`
+/// is at most 100,000 and there are at most 400,000 arcs; every call that takes a net asks that it
+/// is valid.
 #[derive(Drop)]
 pub struct Net {
     pub n: u32,

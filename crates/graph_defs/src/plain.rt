@@ -35,7 +35,8 @@ pub struct PlainEdge {
     pub label: Row<u8>,
 }
 
-/// A graph as a file has it: the types of its labels, the labels of its nodes, and its edges, both by their places.
+/// A graph as a file has it: the types of its labels, the labels of its nodes, and its edges, both
+/// by their places.
 #[derive(Drop)]
 pub struct PlainGraph {
     pub directed: bool,

@@ -11,9 +11,11 @@ pub enum Cond {
     Range,
     /// A node doesn't stand once among the finite, the low and the unreached ones.
     Once,
-    /// The source isn't the first finite node with distance 0 and without an arc, nor low with no finite node.
+    /// The source isn't the first finite node with distance 0 and without an arc, nor low with no
+    /// finite node.
     Source,
-    /// A finite node isn't reached by its arc from an earlier one, at the difference of their distances.
+    /// A finite node isn't reached by its arc from an earlier one, at the difference of their
+    /// distances.
     TightNode,
     /// A seed isn't a walk to a closed walk of negative weight.
     Seed,
@@ -21,7 +23,8 @@ pub enum Cond {
     Low,
     /// An arc is shorter than the difference of the distances of its ends.
     Shorter,
-    /// An arc leads from a node that is reached to one that isn't, or from a low node to a finite one.
+    /// An arc leads from a node that is reached to one that isn't, or from a low node to a finite
+    /// one.
     Leaves,
     /// A flow isn't within the bounds of its arc.
     Bounds,
@@ -69,7 +72,7 @@ pub enum Cond {
 #[derive(Clone, Copy, Debug, PartialEq, Eq)]
 pub enum Verdict {
     Yes,
-    /// The first condition that is broken, in the checker's order, and its first place: the number of a node, an
-    /// arc or a seed, or 0 where the condition has no place.
+    /// The first condition that is broken, in the checker's order, and its first place: the number
+    /// of a node, an arc or a seed, or 0 where the condition has no place.
     No { cond: Cond, place: u32 },
 }

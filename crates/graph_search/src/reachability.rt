@@ -1,18 +1,19 @@
-// Whether a walk leads from one node to another.
+//! Whether a walk leads from one node to another.
 ghost use Rattle.std.specs.Prelude.{◌<◌, IfOk};
 ghost use Rattle.graph_defs.specs.Net.{IsValid};
 ghost use Rattle.graph_defs.specs.Walk.{IsReach};
 
 use crate::breadth_first::{Search, visited_nodes, walk_to};
-use graph_defs::{Adjacency, Net, Reach};
+use graph_defs::{Grouped, Net, Reach};
 use leda_base::{NoMemory, Row};
 use std::alloc::Global;
 
-/// A walk from `s` to `t`, or where there is none a closed set with `s` and without `t`: the nodes to which a walk
-/// leads from `s`.
+/// A walk from `s` to `t`, or where there is none a closed set with `s` and without `t`: the nodes
+/// to which a walk leads from `s`.
 ///
-/// The walk has no arcs where `s` is `t`. A breadth first search (K. Mehlhorn and S. Naeher, LEDA, Cambridge 1999), in
-/// time and memory linear in the nodes and arcs; it ends as soon as it finds `t`.
+/// The walk has no arcs where `s` is `t`. A breadth first search (K. Mehlhorn and S. Naeher, LEDA,
+/// Cambridge 1999), in time and memory linear in the nodes and arcs; it ends as soon as it finds
+/// `t`.
 ///
 /// # Errors
 /// `NoMemory` where the room isn't given.
@@ -25,9 +26,9 @@ pub fn reach(alloc: Global, net: &Net, s: u32, t: u32) -> Result<Reach, NoMemory
     if s == t {
         return Ok(Reach::Walk(Row::new(alloc)));
     }
-    let adjacency = Adjacency::new(alloc, net)?;
+    let leaving = Grouped::by(alloc, net.n, net.arcs.as_slice())?;
     let mut search = Search::start(alloc, net.n, s)?;
-    if search.run(net, &adjacency, t)? {
+    if search.run(&leaving, t)? {
         let queue = search.queue.as_slice();
         Ok(Reach::Walk(walk_to(alloc, queue, queue.len() - 1)?))
     } else {
@@ -61,7 +62,8 @@ mod tests {
         }
     }
 
-    // A loop at 0, parallel arcs from 0 to 1, a cycle 0, 1, 2, a path 4, 3, 0 into it, and a node 5 by itself.
+    // A loop at 0, parallel arcs from 0 to 1, a cycle 0, 1, 2, a path 4, 3, 0 into it, and a node 5
+    // by itself.
     #[test]
     fn walks_and_closed_sets_are_found(rt: HostRuntime) -> Result<(), Fail> {
         let arcs = [(0, 0), (0, 1), (0, 1), (1, 2), (2, 0), (4, 3), (3, 0)];

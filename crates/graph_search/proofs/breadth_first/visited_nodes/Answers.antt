@@ -1,6 +1,6 @@
 use Rattle.std.proofs.Common.{ℕ, Bool, List, ◌∷◌, [], ◌++◌, ap, sym, ◌∙◌}
 use Rattle.graph_search.specs.Tree.{is_visited}
-use Rattle.graph_search.proofs.Lists.{filter_more_yes, filter_more_no}
+use Rattle.graph_defs.proofs.Numbers.{filter_more_yes, filter_more_no}
 use Rattle.graph_search.proofs.breadth_first.visited_nodes.Goals as goal
 use Rattle.graph_search.proofs.breadth_first.visited_nodes.Goals.{then-is_visited+in_ok-push, else-is_visited}
 
