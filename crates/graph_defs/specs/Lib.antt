@@ -4,6 +4,7 @@ pub mod Grouped
 pub mod Layout
 pub mod Net
 pub mod Set
+pub mod Shortest
 pub mod Sum
 pub mod Verdict
 pub mod Walk

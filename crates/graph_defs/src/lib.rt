@@ -24,13 +24,15 @@ mod laws;
 mod net;
 mod plain;
 mod query;
+mod shortest;
 mod verdict;
 
 pub use answer::Reach;
 pub use dart::Dart;
 pub use grouped::{Grouped, Incidence};
-pub use laws::closed_set_excludes_walks;
+pub use laws::{closed_set_excludes_walks, shortest_gives_least_weights, yes_gives_least_weights};
 pub use net::{ARC_LIMIT, NODE_LIMIT, Net};
 pub use plain::{PlainEdge, PlainGraph, TextKind};
 pub use query::{Kept, Mode};
+pub use shortest::{Finite, Low, Seed, SpAnswer, Why};
 pub use verdict::{Cond, Verdict};
