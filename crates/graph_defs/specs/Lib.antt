@@ -1,5 +1,7 @@
+pub mod Cost
 pub mod Count
 pub mod Dart
+pub mod Flow
 pub mod Grouped
 pub mod Layout
 pub mod Net

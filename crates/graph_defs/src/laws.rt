@@ -1,4 +1,6 @@
 //! What answers show: laws over the definitions, each the contract of a function with an empty body.
+ghost use Rattle.graph_defs.specs.Cost.{ReducedIsCheapest, ReducedIsCheapestOfItsValue, SetExcludesFlows};
+ghost use Rattle.graph_defs.specs.Flow.{CutsBoundFlows};
 ghost use Rattle.graph_defs.specs.Shortest.{ShortestGivesLeastWeights, YesGivesLeastWeights};
 ghost use Rattle.graph_defs.specs.Walk.{ClosedSetExcludesWalks};
 
@@ -18,4 +20,27 @@ pub fn shortest_gives_least_weights()
 /// The same of an answer of which a checker finds that all conditions hold.
 pub fn yes_gives_least_weights()
     ensures { YesGivesLeastWeights }
+{}
+
+/// No flow has a greater value than a cut has capacity, so a flow and a cut of one value show that
+/// the flow is greatest (L. R. Ford and D. R. Fulkerson, Flows in Networks, 1962).
+pub fn cuts_bound_flows()
+    ensures { CutsBoundFlows }
+{}
+
+/// A feasible flow with potentials under which no reduced cost is below 0 where the flow can rise,
+/// nor above 0 where it can fall, costs no more than any other feasible flow.
+pub fn reduced_is_cheapest()
+    ensures { ReducedIsCheapest }
+{}
+
+/// The same of a flow from a source to a sink, among the flows of its value.
+pub fn reduced_is_cheapest_of_its_value()
+    ensures { ReducedIsCheapestOfItsValue }
+{}
+
+/// A set of nodes with a surplus, out of which less can flow than has to, excludes every feasible
+/// flow.
+pub fn set_excludes_flows()
+    ensures { SetExcludesFlows }
 {}

@@ -19,6 +19,7 @@
 
 mod answer;
 mod dart;
+mod flow;
 mod grouped;
 mod laws;
 mod net;
@@ -29,8 +30,13 @@ mod verdict;
 
 pub use answer::Reach;
 pub use dart::Dart;
+pub use flow::{FlowAnswer, McfAnswer, MinMax};
 pub use grouped::{Grouped, Incidence};
-pub use laws::{closed_set_excludes_walks, shortest_gives_least_weights, yes_gives_least_weights};
+pub use laws::{
+    closed_set_excludes_walks, cuts_bound_flows, reduced_is_cheapest,
+    reduced_is_cheapest_of_its_value, set_excludes_flows, shortest_gives_least_weights,
+    yes_gives_least_weights,
+};
 pub use net::{ARC_LIMIT, NODE_LIMIT, Net};
 pub use plain::{PlainEdge, PlainGraph, TextKind};
 pub use query::{Kept, Mode};
