@@ -4,6 +4,7 @@ pub mod Dart
 pub mod Flow
 pub mod Grouped
 pub mod Layout
+pub mod Matching
 pub mod Net
 pub mod Set
 pub mod Shortest

@@ -1,6 +1,7 @@
 //! What answers show: laws over the definitions, each the contract of a function with an empty body.
 ghost use Rattle.graph_defs.specs.Cost.{ReducedIsCheapest, ReducedIsCheapestOfItsValue, SetExcludesFlows};
 ghost use Rattle.graph_defs.specs.Flow.{CutsBoundFlows};
+ghost use Rattle.graph_defs.specs.Matching.{CoversBoundMatchings, YesGivesLargest};
 ghost use Rattle.graph_defs.specs.Shortest.{ShortestGivesLeastWeights, YesGivesLeastWeights};
 ghost use Rattle.graph_defs.specs.Walk.{ClosedSetExcludesWalks};
 
@@ -43,4 +44,16 @@ pub fn reduced_is_cheapest_of_its_value()
 /// flow.
 pub fn set_excludes_flows()
     ensures { SetExcludesFlows }
+{}
+
+/// No matching has more edges than the size of an odd-set cover (J. Edmonds, Paths, trees, and
+/// flowers, 1965), so a matching and a cover of one size show that it is largest.
+pub fn covers_bound_matchings()
+    ensures { CoversBoundMatchings }
+{}
+
+/// Where a checker finds that all conditions hold of a matching and its cover, no matching of the
+/// net has more edges.
+pub fn yes_gives_largest()
+    ensures { YesGivesLargest }
 {}

@@ -22,6 +22,7 @@ mod dart;
 mod flow;
 mod grouped;
 mod laws;
+mod matching;
 mod net;
 mod plain;
 mod query;
@@ -33,10 +34,11 @@ pub use dart::Dart;
 pub use flow::{FlowAnswer, McfAnswer, MinMax};
 pub use grouped::{Grouped, Incidence};
 pub use laws::{
-    closed_set_excludes_walks, cuts_bound_flows, reduced_is_cheapest,
+    closed_set_excludes_walks, covers_bound_matchings, cuts_bound_flows, reduced_is_cheapest,
     reduced_is_cheapest_of_its_value, set_excludes_flows, shortest_gives_least_weights,
-    yes_gives_least_weights,
+    yes_gives_largest, yes_gives_least_weights,
 };
+pub use matching::MatchAnswer;
 pub use net::{ARC_LIMIT, NODE_LIMIT, Net};
 pub use plain::{PlainEdge, PlainGraph, TextKind};
 pub use query::{Kept, Mode};
