@@ -94,19 +94,23 @@ st_sum : (net : Net) (s t : ℕ) (w : ℕ → ℤ) (cap flow : List ℤ) → s <
 st_sum net s t w cap flow l z f =
     sum_only (λ v. w v *ℤ outflow net flow v) net.n s l (λ v m ne. st_cases net s t v w cap flow z f m ne (cases_eq v t))
 
-pub cuts_bound_flows : (net : Net) (s t : ℕ) (cap flow : List ℤ) (cut : List ℕ) → IsValid net → s < net.n → IsFlow net s t cap flow → IsCut net.n s t cut
+pub set_bounds_flows : (net : Net) (s t : ℕ) (cap flow : List ℤ) (cut : List ℕ) → IsValid net → s < net.n → IsFlow net s t cap flow → is_in cut s ≡ true → is_in cut t ≡ false
     → outflow net flow s ≤ℤ capacity net cap (is_in cut)
 unfolding cut_weight
-cuts_bound_flows net s t cap flow cut valid l f c =
+set_bounds_flows net s t cap flow cut valid l f has lacks =
     let w : ℕ → ℤ = cut_weight cut in
-    let one : cut_weight cut s ≡ pos 1 = ap (λ (b : Bool). when b (pos 1)) c.has in
-    let none : cut_weight cut t ≡ pos 0 = ap (λ (b : Bool). when b (pos 1)) c.lacks in
+    let one : cut_weight cut s ≡ pos 1 = ap (λ (b : Bool). when b (pos 1)) has in
+    let none : cut_weight cut t ≡ pos 0 = ap (λ (b : Bool). when b (pos 1)) lacks in
     let sum = st_sum net s t w cap flow l none f in
     let x = exchange net w flow (length net.arcs) valid (omega arith) in
     let le = sum_le (λ a. at flow a *ℤ (w (source net a) -ℤ w (target net a))) (λ a. when (leaves net (is_in cut) a) (at cap a)) (length net.arcs)
     (λ a m. cut_term (is_in cut (source net a)) (is_in cut (target net a)) (at flow a) (at cap a) (f.bounds a m)) in
     let p : (cut_weight cut s *ℤ outflow net flow s) ≡ (pos 1 *ℤ outflow net flow s) = ap (λ (y : ℤ). y *ℤ outflow net flow s) one in
     omega (arith, ints)
+
+pub cuts_bound_flows : (net : Net) (s t : ℕ) (cap flow : List ℤ) (cut : List ℕ) → IsValid net → s < net.n → IsFlow net s t cap flow → IsCut net.n s t cut
+    → outflow net flow s ≤ℤ capacity net cap (is_in cut)
+cuts_bound_flows net s t cap flow cut valid l f c = set_bounds_flows net s t cap flow cut valid l f c.has c.lacks
 
 -- ---- reduced costs
 reduced_split : (c p q f : ℤ) → ((c +ℤ p -ℤ q) *ℤ f) ≡ ((c *ℤ f) +ℤ (f *ℤ (p -ℤ q)))

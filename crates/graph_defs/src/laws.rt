@@ -1,6 +1,6 @@
 //! What answers show: laws over the definitions, each the contract of a function with an empty body.
 ghost use Rattle.graph_defs.specs.Cost.{ReducedIsCheapest, ReducedIsCheapestOfItsValue, SetExcludesFlows};
-ghost use Rattle.graph_defs.specs.Flow.{CutsBoundFlows};
+ghost use Rattle.graph_defs.specs.Flow.{CutsBoundFlows, YesGivesGreatest};
 ghost use Rattle.graph_defs.specs.Matching.{CoversBoundMatchings, YesGivesLargest};
 ghost use Rattle.graph_defs.specs.Shortest.{ShortestGivesLeastWeights, YesGivesLeastWeights};
 ghost use Rattle.graph_defs.specs.Walk.{ClosedSetExcludesWalks};
@@ -27,6 +27,11 @@ pub fn yes_gives_least_weights()
 /// the flow is greatest (L. R. Ford and D. R. Fulkerson, Flows in Networks, 1962).
 pub fn cuts_bound_flows()
     ensures { CutsBoundFlows }
+{}
+
+/// Where a checker finds that all conditions hold of a flow and its cut, no flow has a greater value.
+pub fn yes_gives_greatest()
+    ensures { YesGivesGreatest }
 {}
 
 /// A feasible flow with potentials under which no reduced cost is below 0 where the flow can rise,

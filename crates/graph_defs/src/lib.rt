@@ -36,7 +36,7 @@ pub use grouped::{Grouped, Incidence};
 pub use laws::{
     closed_set_excludes_walks, covers_bound_matchings, cuts_bound_flows, reduced_is_cheapest,
     reduced_is_cheapest_of_its_value, set_excludes_flows, shortest_gives_least_weights,
-    yes_gives_largest, yes_gives_least_weights,
+    yes_gives_greatest, yes_gives_largest, yes_gives_least_weights,
 };
 pub use matching::MatchAnswer;
 pub use net::{ARC_LIMIT, NODE_LIMIT, Net};
