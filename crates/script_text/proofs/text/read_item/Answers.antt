@@ -1,8 +1,8 @@
 use Rattle.std.proofs.Common.{◌≡◌, arith}
 use Rattle.std.proofs.lemmas.Grind.{common_steps}
-use Rattle.script_text.specs.Line.{item_number}
+use Rattle.script_text.specs.Text.{item_number}
 use Rattle.script_text.proofs.Names.{named, unnamed}
-use Rattle.script_text.proofs.argument.read_item.Goals as goal
+use Rattle.script_text.proofs.text.read_item.Goals as goal
 
 pub returns-in-len1-up-clause-name : goal.returns-in-len1-up-clause-name
 returns-in-len1-up-clause-name c =

@@ -1,5 +1,5 @@
 use Rattle.script_text.proofs.Numbers.{value_more}
-use Rattle.script_text.proofs.argument.value_of.Goals as goal
+use Rattle.script_text.proofs.text.value_of.Goals as goal
 
 pub loop-digit-preserved : goal.loop-digit-preserved
 loop-digit-preserved c =

@@ -1,0 +1,61 @@
+//! The table of commands: how each is spelled, its word, the forms of its arguments, and whether it takes memory.
+ghost use Rattle.std.specs.Prelude.{◌≡◌, map, option_map};
+ghost use Rattle.script_text.specs.Borrowed.{entry_seen, token_seen};
+ghost use Rattle.script_text.specs.Table.{table, entry_of as the_entry, may_begin};
+
+use crate::argument::Misfit;
+use crate::form::{Form, Sight, read_arg};
+use crate::token::Token;
+use crate::word::{EditWord, QueryWord, Word};
+
+/// Whether running a command takes memory, so that it may be answered by want of memory.
+#[derive(Clone, Copy, Debug, PartialEq, Eq)]
+pub enum Memory {
+    NotTaken,
+    /// It may be taken. The reply fits the room that is there from the start.
+    Taken,
+    /// It may be taken, for the text of the reply too, which may be of any length.
+    TakenByReply,
+}
+
+/// A row of the table: the spelling, the word, the forms of the arguments in order, and the memory.
+///
+/// A tuple, since clauses can cite no constant of a struct with references.
+pub(crate) type Entry = (&'static str, Word, &'static [Form], Memory);
+
+const NODE: Form = Form::Node(Sight::Visible);
+
+/// The table. All that is said of a command before it runs is said here.
+pub(crate) const TABLE: [Entry; 3] = [
+    ("node", Word::Edit(EditWord::Node), &[], Memory::Taken),
+    ("edge", Word::Edit(EditWord::Edge), &[NODE, NODE], Memory::Taken),
+    ("reach", Word::Query(QueryWord::Reach), &[NODE, NODE], Memory::TakenByReply),
+];
+
+/// The table.
+pub(crate) fn table() -> &'static [Entry]
+    ensures { map entry_seen result.now ≡ table }
+{
+    &TABLE
+}
+
+/// Whether the arguments of these forms may begin with the token.
+fn may_begin(forms: &[Form], next: Option<Token<'_>>) -> bool
+    ensures { result ≡ may_begin forms.now (option_map token_seen next.entry) }
+{
+    match (forms, next) {
+        ([form, ..], Some(token)) => read_arg(*form, token) != Err(Misfit::OtherForm),
+        _ => true,
+    }
+}
+
+/// The row that a line's first token and the next one choose.
+pub(crate) fn entry_of(rows: &[Entry], spelling: &[u8], next: Option<Token<'_>>) -> Option<Entry>
+    ensures { option_map entry_seen result
+        ≡ the_entry (map entry_seen rows.now) spelling.now (option_map token_seen next.entry) }
+{
+    rows.iter()
+        .find(|entry| entry.0.as_bytes() == spelling && may_begin(entry.2, next))
+        .or_else(|| rows.iter().find(|entry| entry.0.as_bytes() == spelling))
+        .copied()
+}
