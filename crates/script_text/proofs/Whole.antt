@@ -1,5 +1,5 @@
 -- A row of the table and the arguments that a line says of it are a command that is whole.
-use Rattle.std.proofs.Common.{◌≡◌, ◌<◌, ℕ, ◌&&◌, ◌||◌, List, [], ◌∷◌, length, drop, Option, Some, None, Result, Ok, Err, IfSome, IfOk, IsTrue, subst, refl, sym, ap, suc, Bool, true, false, nat_lt, if◌then◌else◌, option_map, cond, find, nat_eq, codes, ℤ, pos, negsuc}
+use Rattle.std.proofs.Common.{◌≡◌, ◌<◌, ℕ, ◌&&◌, ◌||◌, List, [], ◌∷◌, length, drop, Option, Some, None, Result, Ok, Err, IfSome, IfOk, IsErrAnd, IsTrue, subst, ◌∙◌, refl, sym, ap, suc, Bool, true, false, nat_lt, if◌then◌else◌, option_map, cond, find, nat_eq, codes, ℤ, pos, negsuc}
 use Rattle.std.specs.List.{AllZip, list_any, starts_with, ends_with}
 use Rattle.std.specs.Option.{option_or, ok_or}
 use Rattle.leda_base.specs.Decimal.{integer_of}
@@ -9,12 +9,17 @@ use Rattle.script_text.specs.declared.argument.Misfit.{Misfit}
 use Rattle.script_text.specs.declared.argument.Misfit.TheVariants.{OtherForm, OutOfRange}
 use Rattle.script_text.specs.declared.form.Form.{Form}
 use Rattle.script_text.specs.declared.form.Form.TheVariants as forms
+use Rattle.script_text.specs.declared.line.Line.{Line}
 use Rattle.script_text.specs.declared.line.LineRefusal.{LineRefusal}
 use Rattle.script_text.specs.declared.line.LineRefusal.TheVariants.{LongLine, Syntax, Number, NoMemory}
 use Rattle.script_text.specs.Text.{node_number, edge_number, cell_number, item_number, is_name, is_label, between, label_of, is_file, is_i64, mode_of, sort_of}
-use Rattle.script_text.specs.Token.{Token, behind}
+use Rattle.script_text.specs.Borrowed.{has_bytes, IsEntry}
+use Rattle.script_text.specs.Said.{Said}
+use Rattle.script_text.specs.Token.{Token, behind, next_of, tokens_of}
 use Rattle.script_text.specs.Form.{or_other, tested, number_arg, read_arg, left_out, takes_rest, keeps_bytes, IsOfForm, FitsForms}
-use Rattle.script_text.specs.Line.{with_later, arguments}
+use Rattle.script_text.specs.Table.{Entry, table, entry_of, keeps_any, forms_of, IsWhole}
+use Rattle.script_text.specs.Line.{with_later, arguments, Reading, reading_of, read_row, read_tokens, read_line, line_limit, meaning_of, line_of, Reads}
+use Rattle.script_text.proofs.Entries.{entry_of-each, table-each}
 use Rattle.script_text.proofs.Names.{item_number-Some}
 
 -- the misfit or an argument of the form
@@ -141,3 +146,138 @@ fits (form ∷ forms) missing [] args e =
 fits (form ∷ forms) missing (token ∷ tokens) args e =
     fits_later form forms token.column (read_arg form token) (arguments forms (behind token) (if takes_rest form then [] else tokens))
     args (read_arg-fits form token) (fits forms (behind token) (if takes_rest form then [] else tokens)) e
+
+-- an argument with bytes is of a form that keeps bytes
+keeps_one : (arg : Arg) (form : Form) → IsOfForm arg form → has_bytes arg ≡ true → keeps_bytes form ≡ true
+keeps_one (args.Name name) (forms.Object kinds) of_form e = refl
+keeps_one (args.Name name) forms.NewName of_form e = refl
+keeps_one (args.Name name) form of_form e = absurd of_form
+keeps_one (args.Label label) forms.Label of_form e = refl
+keeps_one (args.Label label) forms.OptionalLabel of_form e = refl
+keeps_one (args.Label label) form of_form e = absurd of_form
+keeps_one (args.File file) forms.File of_form e = refl
+keeps_one (args.File file) form of_form e = absurd of_form
+keeps_one arg form of_form e = cc
+
+-- where an argument has bytes, a form keeps bytes
+keeps_some : (args : List Arg) (forms : List Form) → AllZip IsOfForm args forms → list_any has_bytes args ≡ true
+    → list_any keeps_bytes forms ≡ true
+keeps_some [] forms each e = cc
+keeps_some (arg ∷ args) [] each e = absurd each
+keeps_some (arg ∷ args) (form ∷ forms) each e = by_test (has_bytes arg) refl e (keeps_some args forms each.1)
+  where
+    first : (v w : Bool) → v ≡ true → (v || w) ≡ true
+    first true w h = refl
+    first false w h = cc
+    later : (v w : Bool) → w ≡ true → (v || w) ≡ true
+    later true w h = refl
+    later false w h = h
+    by_test : (v : Bool) → has_bytes arg ≡ v → (v || list_any has_bytes args) ≡ true
+        → (list_any has_bytes args ≡ true → list_any keeps_bytes forms ≡ true)
+        → (keeps_bytes form || list_any keeps_bytes forms) ≡ true
+    by_test true is h others = first _ _ (keeps_one arg form each.0 is)
+    by_test false is h others = later _ _ (others h)
+
+-- no fault among the arguments is want of memory
+with_later-fault : (column : ℕ) (read : Result Arg Misfit) (later : Result (List Arg) LineRefusal)
+    → (later ≡ Err NoMemory → ⊥) → with_later column read later ≡ Err NoMemory → ⊥
+with_later-fault column (Err OtherForm) later h e = cc
+with_later-fault column (Err OutOfRange) (Ok l) h e = cc
+with_later-fault column (Err OutOfRange) (Err LongLine) h e = cc
+with_later-fault column (Err OutOfRange) (Err (Syntax c)) h e = cc
+with_later-fault column (Err OutOfRange) (Err (Number c)) h e = cc
+with_later-fault column (Err OutOfRange) (Err NoMemory) h e = cc
+with_later-fault column (Ok a) (Ok l) h e = cc
+with_later-fault column (Ok a) (Err fault) h e = h (let is : fault ≡ NoMemory = cc in ap Err is)
+
+arguments-fault : (forms : List Form) (missing : ℕ) (tokens : List Token) → arguments forms missing tokens ≡ Err NoMemory → ⊥
+arguments-fault [] missing [] e = cc
+arguments-fault [] missing (token ∷ tokens) e = cc
+arguments-fault (form ∷ forms) missing [] e =
+    with_later-fault missing (left_out form) (arguments forms missing []) (arguments-fault forms missing []) e
+arguments-fault (form ∷ forms) missing (token ∷ tokens) e =
+    with_later-fault token.column (read_arg form token) (arguments forms (behind token) (if takes_rest form then [] else tokens))
+    (arguments-fault forms (behind token) (if takes_rest form then [] else tokens)) e
+
+-- a row of the table, with arguments of its forms
+pub record IsReading (reading : Reading) : Type 0 where
+  pub row : IsEntry reading.row
+  pub args : FitsForms reading.args reading.row.forms
+
+-- what is read of a line: nothing, a reading, or a fault other than want of memory
+abbrev pub IsRead : Result (Option Reading) LineRefusal → Type 0
+IsRead (Ok None) = Unit {0}
+IsRead (Ok (Some reading)) = IsReading reading
+IsRead (Err fault) = fault ≡ NoMemory → ⊥
+
+reading_of-read : (row : Entry) (read : Result (List Arg) LineRefusal) → IsEntry row
+    → ((args : List Arg) → read ≡ Ok args → FitsForms args row.forms) → (read ≡ Err NoMemory → ⊥) → IsRead (reading_of row read)
+reading_of-read row (Ok args) is fit fault = record { row = is; args = fit args refl }
+reading_of-read row (Err e) is fit fault = λ same. fault (ap Err same)
+
+read_row-read : (chosen : Option Entry) (first : Token) (tokens : List Token) → IfSome chosen IsEntry
+    → IsRead (read_row chosen first tokens)
+read_row-read None first tokens is = λ e. cc
+read_row-read (Some row) first tokens is =
+    reading_of-read row (arguments row.forms (behind first) tokens) is
+    (fits row.forms (behind first) tokens) (arguments-fault row.forms (behind first) tokens)
+
+read_tokens-read : (tokens : List Token) → IsRead (read_tokens table tokens)
+read_tokens-read [] = tt
+read_tokens-read (first ∷ tokens) = by_test (starts_with nat_eq first.bytes (codes "#"))
+  where
+    by_test : (v : Bool) → IsRead (if v then Ok None else read_row (entry_of table first.bytes (next_of tokens)) first tokens)
+    by_test true = tt
+    by_test false = read_row-read _ first tokens (entry_of-each IsEntry table first.bytes (next_of tokens) table-each)
+
+-- what the table says of a line
+pub read_line-read : (line : List ℕ) → IsRead (read_line table line)
+unfolding read_line
+read_line-read line = by_test (nat_lt line_limit (length line))
+  where
+    by_test : (v : Bool) → IsRead (if v then Err LongLine else read_tokens table (tokens_of line))
+    by_test true = λ e. cc
+    by_test false = read_tokens-read (tokens_of line)
+
+-- where the code's table is the table
+read_is : (rows : List Entry) (line : List ℕ) (answer : Result (Option Reading) LineRefusal) → rows ≡ table
+    → answer ≡ read_line rows line → read_line table line ≡ answer
+read_is rows line answer rows_are h = sym (h ∙ ap (λ r. read_line r line) rows_are)
+
+-- what was read is a row of the table with arguments of its forms
+pub reading_is : (rows : List Entry) (line : List ℕ) (found : Option Reading) (reading : Reading) → rows ≡ table
+    → Ok found ≡ read_line rows line → found ≡ Some reading → IsReading reading
+reading_is rows line found reading rows_are h is =
+    subst IsRead (read_is rows line (Ok found) rows_are h ∙ ap Ok is) (read_line-read line)
+
+-- a fault is answered by itself
+pub fault_reads : (rows : List Entry) (line : List ℕ) (fault : LineRefusal) (answer : Result Line LineRefusal) → rows ≡ table
+    → Err fault ≡ read_line rows line → IsErrAnd answer (λ refusal. refusal ≡ fault) → Reads (line_of line) answer
+fault_reads rows line fault (Ok l) rows_are h is = absurd is
+fault_reads rows line fault (Err refusal) rows_are h is =
+    by_fault refusal (read_is rows line (Err refusal) rows_are (ap Err is ∙ h))
+  where
+    by_fault : (f : LineRefusal) → read_line table line ≡ Err f → Reads (line_of line) (Err f)
+    by_fault LongLine e = ap meaning_of e
+    by_fault (Syntax column) e = ap meaning_of e
+    by_fault (Number column) e = ap meaning_of e
+    by_fault NoMemory e = absurd (subst IsRead e (read_line-read line) refl)
+
+-- want of memory is answered to a command whose arguments keep bytes
+pub lack_reads : (rows : List Entry) (line : List ℕ) (found : Option Reading) (reading : Reading)
+    (answer : Result Line LineRefusal) → rows ≡ table → Ok found ≡ read_line rows line → found ≡ Some reading
+    → list_any has_bytes reading.args ≡ true → IsErrAnd answer (λ refusal. refusal ≡ NoMemory) → Reads (line_of line) answer
+lack_reads rows line found reading (Ok l) rows_are h is bytes lack = absurd lack
+lack_reads rows line found reading (Err refusal) rows_are h is bytes lack = rw lack (record {
+  said = record { word = reading.row.word; args = reading.args };
+  is = ap meaning_of (read_is rows line (Ok found) rows_are h ∙ ap Ok is);
+  keeps = rw (← whole.row) (keeps_some reading.args reading.row.forms whole.args.each bytes);
+})
+  where
+    whole : IsReading reading
+    whole = reading_is rows line found reading rows_are h is
+
+-- a command of what was read is whole
+pub whole_is : (said : Said) (reading : Reading) → IsReading reading → said.word ≡ reading.row.word → said.args ≡ reading.args
+    → IsWhole said
+whole_is said reading whole word args = rw (word, args, ← whole.row) whole.args

@@ -1,5 +1,5 @@
 -- The texts of arguments: names of items and objects, labels, files, modes and kept sorts.
-use Rattle.std.specs.Prelude.{◌≡◌, ◌<◌, ℕ, ◌-◌, ◌^◌, Bool, ◌&&◌, ◌||◌, ◌==◌, nat_eq, nat_lt, nat_le, not, is_some, if◌then◌else◌, List, [], ◌∷◌, length, drop, take, slice_index, find, codes, bytes_eq, Option, Some, None, option_map, ℤ, pos, negsuc}
+use Rattle.std.specs.Prelude.{◌≡◌, ◌<◌, ℕ, ◌-◌, ◌^◌, Bool, ◌&&◌, ◌||◌, ◌==◌, nat_eq, nat_lt, nat_le, not, is_some, if◌then◌else◌, List, [], ◌∷◌, length, drop, take, slice_index, map, find, codes, bytes_eq, Option, Some, None, option_map, ℤ, pos, negsuc}
 use Rattle.std.specs.List.{starts_with, ends_with, list_all}
 use Rattle.std.specs.Char.{is_ascii_digit, is_ascii_alphanumeric, is_ascii_graphic}
 use Rattle.std.specs.Fmt.{decimal}
@@ -76,10 +76,14 @@ abbrev pub is_i64 : ℤ → Bool
 is_i64 (pos n) = nat_lt n (2 ^ 63)
 is_i64 (negsuc n) = nat_lt n (2 ^ 63)
 
+-- what stands beside the spelling that the bytes are
+abbrev pub spelled : {A : Type 0} → List (List ℕ × A) → List ℕ → Option A
+spelled pairs bytes = option_map (λ pair. pair.1) (find (λ pair. bytes_eq pair.0 bytes) pairs)
+
 -- the mode that bytes spell
 abbrev pub mode_of : List ℕ → Option Mode
-mode_of bytes = option_map (λ mode. mode.1) (find (λ mode. bytes_eq mode.0.now bytes) MODES)
+mode_of = spelled (map (λ pair. (pair.0.now, pair.1)) MODES)
 
 -- the sort of a kept answer that bytes spell
 abbrev pub sort_of : List ℕ → Option Kept
-sort_of bytes = option_map (λ sort. sort.1) (find (λ sort. bytes_eq sort.0.now bytes) SORTS)
+sort_of = spelled (map (λ pair. (pair.0.now, pair.1)) SORTS)

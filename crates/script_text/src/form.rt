@@ -1,5 +1,6 @@
 //! The forms of arguments, and how a token is read as an argument.
-ghost use Rattle.std.specs.Prelude.{◌≡◌};
+ghost use Rattle.std.specs.Prelude.{◌≡◌, ok_or};
+ghost use Rattle.script_text.specs.declared.argument.Misfit.TheVariants as misfits;
 ghost use Rattle.script_text.specs.Borrowed.{read_seen, token_seen};
 ghost use Rattle.script_text.specs.Form.{read_arg as the_arg, number_arg, left_out as the_left_out, takes_rest as the_rest};
 ghost use Rattle.leda_base.specs.Decimal.{integer_of};
@@ -81,21 +82,21 @@ pub(crate) fn read_arg<'a>(form: Form, token: Token<'a>) -> Result<ArgRef<'a>, M
 {
     let Token { bytes, tail, .. } = token;
     match form {
-        Form::Node(_) => or_other(read_item(b'n', bytes).map(ArgRef::Node)),
-        Form::Edge(_) => or_other(read_item(b'e', bytes).map(ArgRef::Edge)),
+        Form::Node(_) => Ok(ArgRef::Node(found(read_item(b'n', bytes))?)),
+        Form::Edge(_) => Ok(ArgRef::Edge(found(read_item(b'e', bytes))?)),
         Form::Element(_) => match read_item(b'n', bytes) {
             Some(number) => Ok(ArgRef::Node(number)),
-            None => or_other(read_item(b'e', bytes).map(ArgRef::Edge)),
+            None => Ok(ArgRef::Edge(found(read_item(b'e', bytes))?)),
         },
-        Form::Cell(_) => or_other(read_item(b'i', bytes).map(ArgRef::Cell)),
+        Form::Cell(_) => Ok(ArgRef::Cell(found(read_item(b'i', bytes))?)),
         Form::Object(_) | Form::NewName if is_name(bytes) => Ok(ArgRef::Name(bytes)),
         Form::Num => read_number(bytes),
         Form::NumOrLabels if bytes == b"labels".as_slice() => Ok(ArgRef::Labels),
         Form::NumOrLabels => read_number(bytes),
-        Form::Label | Form::OptionalLabel => or_other(label_of(tail).map(ArgRef::Label)),
+        Form::Label | Form::OptionalLabel => Ok(ArgRef::Label(found(label_of(tail))?)),
         Form::File if is_file(bytes) => Ok(ArgRef::File(bytes)),
-        Form::Mode => or_other(mode_of(bytes).map(ArgRef::Mode)),
-        Form::Kept => or_other(sort_of(bytes).map(ArgRef::Kept)),
+        Form::Mode => Ok(ArgRef::Mode(found(mode_of(bytes))?)),
+        Form::Kept => Ok(ArgRef::Kept(found(sort_of(bytes))?)),
         Form::Object(_) | Form::NewName | Form::File => Err(Misfit::OtherForm),
     }
 }
@@ -110,8 +111,10 @@ pub(crate) fn left_out(form: Form) -> Result<ArgRef<'static>, Misfit>
     }
 }
 
-fn or_other(arg: Option<ArgRef<'_>>) -> Result<ArgRef<'_>, Misfit> {
-    arg.ok_or(Misfit::OtherForm)
+fn found<T>(part: Option<T>) -> Result<T, Misfit>
+    ensures { result ≡ ok_or part misfits.OtherForm }
+{
+    part.ok_or(Misfit::OtherForm)
 }
 
 fn read_number(bytes: &[u8]) -> Result<ArgRef<'static>, Misfit>

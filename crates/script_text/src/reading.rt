@@ -44,7 +44,7 @@ impl Reading<'_> {
     /// # Errors
     /// `NoMemory`, only where some argument has bytes.
     pub(crate) fn own(self, alloc: Global) -> Result<Command, NoMemory>
-        requires { IsEntry self.entry.row }
+        requires { IsEntry self.row }
         ensures ok { IfOk result (λ command. (command.word ≡ self.entry.row.word) × (command.args ≡ self.entry.args)) }
         ensures err { OnErr result (list_any has_bytes self.entry.args ≡ true) }
     {
@@ -67,6 +67,7 @@ fn own_args(alloc: Global, args: &[ArgRef<'_>]) -> Result<SmallVec<Arg, 8, Globa
 }
 
 /// Reads a line, which is given without its LF, by a table. It takes no memory.
+#[tactic(auto, unfolding(crate::specs::Line::read_line, crate::specs::Line::line_limit))]
 pub(crate) fn read_line<'a>(
     alloc: Global,
     rows: &[Entry],

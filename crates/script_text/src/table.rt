@@ -1,5 +1,5 @@
 //! The table of commands: how each is spelled, its word, the forms of its arguments, and whether it takes memory.
-ghost use Rattle.std.specs.Prelude.{◌≡◌, map, option_map};
+ghost use Rattle.std.specs.Prelude.{◌≡◌, ◌&&◌, bytes_eq, find, map, option_map};
 ghost use Rattle.script_text.specs.Borrowed.{entry_seen, token_seen};
 ghost use Rattle.script_text.specs.Table.{table, entry_of as the_entry, may_begin};
 
@@ -54,8 +54,25 @@ pub(crate) fn entry_of(rows: &[Entry], spelling: &[u8], next: Option<Token<'_>>)
     ensures { option_map entry_seen result
         ≡ the_entry (map entry_seen rows.now) spelling.now (option_map token_seen next.entry) }
 {
+    match first_begun(rows, spelling, next) {
+        Some(entry) => Some(entry),
+        None => first_spelled(rows, spelling),
+    }
+}
+
+/// The first row of this spelling whose arguments may begin with the token.
+fn first_begun(rows: &[Entry], spelling: &[u8], next: Option<Token<'_>>) -> Option<Entry>
+    ensures { result ≡ find (λ entry. bytes_eq entry.0.now spelling.now
+        && may_begin entry.2.now (option_map token_seen next.entry)) rows.now }
+{
     rows.iter()
         .find(|entry| entry.0.as_bytes() == spelling && may_begin(entry.2, next))
-        .or_else(|| rows.iter().find(|entry| entry.0.as_bytes() == spelling))
         .copied()
+}
+
+/// The first row of this spelling.
+fn first_spelled(rows: &[Entry], spelling: &[u8]) -> Option<Entry>
+    ensures { result ≡ find (λ entry. bytes_eq entry.0.now spelling.now) rows.now }
+{
+    rows.iter().find(|entry| entry.0.as_bytes() == spelling).copied()
 }

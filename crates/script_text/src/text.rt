@@ -1,9 +1,9 @@
 //! The texts of arguments: names of items and objects, labels, files, modes and kept sorts.
-ghost use Rattle.std.specs.Prelude.{◌≡◌, ◌++◌, ℕ, ◌≤◌, length, codes, IsTrue, IfSome, IfNone, option_map};
+ghost use Rattle.std.specs.Prelude.{◌≡◌, ◌++◌, ℕ, ◌≤◌, not, ◌==◌, length, codes, map, IsTrue, IfSome, IfNone, option_map};
 ghost use Rattle.std.specs.Char.{is_ascii_digit, is_ascii_graphic};
 ghost use Rattle.std.specs.List.{list_all};
 ghost use Rattle.std.specs.Str.Parse.{digits_value};
-ghost use Rattle.script_text.specs.Text.{IsItemName, item_number, number_of, is_item as the_item, is_name_byte, is_name as the_name, is_label as the_label, label_of as label_in, is_file as the_file, mode_of as the_mode, sort_of as the_sort};
+ghost use Rattle.script_text.specs.Text.{IsItemName, item_number, number_of, is_item as the_item, is_name_byte, is_name as the_name, is_label as the_label, label_of as label_in, is_file as the_file, spelled as beside, mode_of as the_mode, sort_of as the_sort};
 
 use graph_defs::{Kept, Mode};
 
@@ -113,11 +113,17 @@ pub(crate) fn is_file(bytes: &[u8]) -> bool
     !bytes.is_empty() && bytes.len() <= FILE_LIMIT && has_graphic_bytes(bytes)
 }
 
+fn ends_no_line(bytes: &[u8]) -> bool
+    ensures { result ≡ list_all (λ b. not (b == 10)) bytes.now }
+{
+    bytes.iter().all(|byte| *byte != b'\n')
+}
+
 /// Whether bytes that stand in a line may be a label.
 fn is_label(bytes: &[u8]) -> bool
     ensures { result ≡ the_label bytes.now }
 {
-    bytes.len() <= LABEL_LIMIT && bytes.iter().all(|byte| *byte != b'\n')
+    bytes.len() <= LABEL_LIMIT && ends_no_line(bytes)
 }
 
 /// The label that bytes from `|{` to `}|` write.
@@ -125,20 +131,28 @@ pub(crate) fn label_of(bytes: &[u8]) -> Option<&[u8]>
     ensures value { option_map (λ label. label.now) result ≡ label_in bytes.now }
     ensures text { IfSome result (λ label. bytes.now ≡ codes "|{" ++ label.now ++ codes "}|") }
 {
-    let label = bytes.strip_prefix(b"|{".as_slice())?.strip_suffix(b"}|".as_slice())?;
+    let label = bytes.strip_prefix(b"|{")?.strip_suffix(b"}|")?;
     is_label(label).then_some(label)
+}
+
+/// What stands beside the spelling that the bytes are.
+fn spelled<T: Copy>(table: &[(&str, T)], bytes: &[u8]) -> Option<T>
+    ensures { result ≡ beside (map (λ pair. (pair.0.now, pair.1)) table.now) bytes.now }
+{
+    let pair = table.iter().find(|pair| pair.0.as_bytes() == bytes)?;
+    Some(pair.1)
 }
 
 /// The mode that the bytes spell.
 pub(crate) fn mode_of(bytes: &[u8]) -> Option<Mode>
     ensures { result ≡ the_mode bytes.now }
 {
-    MODES.iter().find(|mode| mode.0.as_bytes() == bytes).map(|mode| mode.1)
+    spelled(&MODES, bytes)
 }
 
 /// The sort of a kept answer that the bytes spell.
 pub(crate) fn sort_of(bytes: &[u8]) -> Option<Kept>
     ensures { result ≡ the_sort bytes.now }
 {
-    SORTS.iter().find(|sort| sort.0.as_bytes() == bytes).map(|sort| sort.1)
+    spelled(&SORTS, bytes)
 }
