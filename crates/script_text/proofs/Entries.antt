@@ -1,10 +1,11 @@
 -- What holds of each row of a table holds of the row that a line chooses.
-use Rattle.std.proofs.Common.{◌≡◌, ◌≤◌, ℕ, ◌&&◌, Bool, true, false, nat_le, List, [], ◌∷◌, length, find, Option, Some, None, IfSome, cond, refl, rules, arith}
+use Rattle.std.proofs.Common.{◌≡◌, ◌≤◌, ℕ, ◌||◌, Bool, true, false, nat_le, List, [], ◌∷◌, length, find, Option, Some, None, IfSome, cond, refl, rules, arith}
 use Rattle.std.specs.List.{list_all}
-use Rattle.std.specs.Option.{option_or}
+use Rattle.std.specs.Option.{option_or, option_map_or}
 use Rattle.std.proofs.lemmas.Bool.Decides.{nat_tests}
 use Rattle.script_text.specs.Borrowed.{are_short, IsEntry}
-use Rattle.script_text.specs.Table.{Entry, table, entry_of}
+use Rattle.script_text.specs.declared.word.Word.{Word}
+use Rattle.script_text.specs.Table.{Entry, table, entry_of, entry_with, forms_of, keeps_any, is_taken, may_lack_memory}
 use Rattle.script_text.specs.Token.{Token}
 use Rattle.script_text.proofs.Numbers.{first_true, second_true}
 
@@ -48,3 +49,16 @@ entry_of-short rows spelling next e = entry_of-each IsShort rows spelling next (
 -- each row of the table is that of its word
 pub table-each : Each IsEntry table
 table-each = search rules
+
+-- a word whose arguments keep bytes may lack memory
+pub keeps-may_lack : (word : Word) → keeps_any (forms_of word) ≡ true → may_lack_memory word ≡ true
+keeps-may_lack word = by_entry (entry_with word)
+  where
+    either : (keeps taken : Bool) → keeps ≡ true → (keeps || taken) ≡ true
+    either true taken e = refl
+    either false taken e = cc
+
+    by_entry : (found : Option Entry) → keeps_any (option_map_or (λ entry. entry.forms) found []) ≡ true
+        → option_map_or (λ entry. keeps_any entry.forms || is_taken entry.memory) found false ≡ true
+    by_entry None e = cc
+    by_entry (Some entry) e = either (keeps_any entry.forms) (is_taken entry.memory) e

@@ -132,6 +132,7 @@ trimmed-visible (b ∷ bs) last e = rw (trimmed-visible bs last e) (by_test (is_
   where
     some : (length (bs ++ last ∷ []) == 0) ≡ false
     some = let more : length (bs ++ last ∷ []) ≡ length bs + 1 = length-append bs (last ∷ []) in grind (arith, nat_tests)
+
     by_test : (v : Bool) → (if v && length (bs ++ last ∷ []) == 0 then [] else b ∷ (bs ++ last ∷ [])) ≡ b ∷ (bs ++ last ∷ [])
     by_test true = rw some refl
     by_test false = refl

@@ -169,9 +169,11 @@ keeps_some (arg ∷ args) (form ∷ forms) each e = by_test (has_bytes arg) refl
     first : (v w : Bool) → v ≡ true → (v || w) ≡ true
     first true w h = refl
     first false w h = cc
+
     later : (v w : Bool) → w ≡ true → (v || w) ≡ true
     later true w h = refl
     later false w h = h
+
     by_test : (v : Bool) → has_bytes arg ≡ v → (v || list_any has_bytes args) ≡ true
         → (list_any has_bytes args ≡ true → list_any keeps_bytes forms ≡ true)
         → (keeps_bytes form || list_any keeps_bytes forms) ≡ true

@@ -28,7 +28,7 @@ tokens_after in_token column (b ∷ bs) =
     else if in_token
     then tokens_after true (column + 1) bs
     else record { column = column; bytes = before_first is_blank (b ∷ bs); tail = b ∷ bs }
-        ∷ tokens_after true (column + 1) bs
+    ∷ tokens_after true (column + 1) bs
 
 -- the tokens of bytes that don't end with a blank, the first of which stands in the column
 abbrev pub tokens_from : ℕ → List ℕ → List Token

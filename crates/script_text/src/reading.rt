@@ -136,3 +136,6 @@ fn next_arg<'a>(form: Form, tokens: &mut Tokens<'a>) -> (u32, Result<ArgRef<'a>,
     }
     (token.column, read_arg(form, token))
 }
+
+#[cfg(test)]
+mod tests;

@@ -25,14 +25,24 @@ pub(crate) type Entry = (&'static str, Word, &'static [Form], Memory);
 
 const NODE: Form = Form::Node(Sight::Visible);
 
-/// The table. All that is said of a command before it runs is said here.
-pub(crate) const TABLE: [Entry; 3] = [
-    ("node", Word::Edit(EditWord::Node), &[], Memory::Taken),
-    ("edge", Word::Edit(EditWord::Edge), &[NODE, NODE], Memory::Taken),
-    ("reach", Word::Query(QueryWord::Reach), &[NODE, NODE], Memory::TakenByReply),
-];
+/// Writes the rows of a table, one a line: the spelling, the word, what is asked of each argument, and the memory.
+macro_rules! rows {
+    ($($spelling:literal $kind:ident($word:expr) [$($form:expr),*] $memory:ident;)*) => {
+        [$(($spelling, Word::$kind($word), &[$($form),*], Memory::$memory)),*]
+    };
+}
 
-/// The table.
+#[cfg(test)]
+pub(crate) use rows;
+
+/// The table. All that is said of a command before it runs is said here.
+pub(crate) const TABLE: [Entry; 3] = rows! {
+    "node"   Edit(EditWord::Node)    []            Taken;
+    "edge"   Edit(EditWord::Edge)    [NODE, NODE]  Taken;
+    "reach"  Query(QueryWord::Reach) [NODE, NODE]  TakenByReply;
+};
+
+/// The rows of the table.
 pub(crate) fn table() -> &'static [Entry]
     ensures { map entry_seen result.now ≡ table }
 {
@@ -74,5 +84,7 @@ fn first_begun(rows: &[Entry], spelling: &[u8], next: Option<Token<'_>>) -> Opti
 fn first_spelled(rows: &[Entry], spelling: &[u8]) -> Option<Entry>
     ensures { result ≡ find (λ entry. bytes_eq entry.0.now spelling.now) rows.now }
 {
-    rows.iter().find(|entry| entry.0.as_bytes() == spelling).copied()
+    rows.iter()
+        .find(|entry| entry.0.as_bytes() == spelling)
+        .copied()
 }
