@@ -3,7 +3,8 @@ use Rattle.std.proofs.Common.{◌≡◌, ℕ, ◌+◌, ◌<◌, ◌≤◌, Bool,
 use Rattle.std.proofs.lemmas.Bool.Decides.{nat_tests}
 use Rattle.std.proofs.lemmas.List.{take_all, length-take-le}
 use Rattle.script_text.specs.declared.line.LineRefusal.TheVariants.{LongLine}
-use Rattle.script_text.specs.Line.{line_limit, line_of, kept_most, kept_of}
+use Rattle.script_text.specs.Table.{table}
+use Rattle.script_text.specs.Line.{line_limit, read_line, meaning_of, line_of, kept_most, kept_of}
 
 pub line_limit-is : line_limit ≡ 65536
 unfolding line_limit
@@ -18,9 +19,12 @@ unfolding kept_most
 kept_most-more = refl
 
 -- a line above the limit is refused, whatever it holds
+read_line-long : (line : List ℕ) → line_limit < length line → read_line table line ≡ Err LongLine
+unfolding read_line
+read_line-long line h = let long : nat_lt line_limit (length line) ≡ true = grind (arith, nat_tests) in rw long refl
+
 pub line_of-long : (line : List ℕ) → line_limit < length line → line_of line ≡ Err LongLine
-unfolding line_of
-line_of-long line h = let long : nat_lt line_limit (length line) ≡ true = grind (arith, nat_tests) in rw long refl
+line_of-long line h = ap meaning_of (read_line-long line h)
 
 -- a line means what the bytes that are kept of it mean
 pub line_of-kept : (line : List ℕ) → line_of (kept_of line) ≡ line_of line

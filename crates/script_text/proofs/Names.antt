@@ -7,7 +7,7 @@ use Rattle.std.specs.Str.Parse.{digits_value, IsNumeral}
 use Rattle.std.proofs.lemmas.Bool.Decides.{nat_tests}
 use Rattle.std.proofs.lemmas.Fmt.{decimal-digits_value, decimal_is_IsNumeral, first_decimal, length-decimal-le, decimal_nonempty}
 use Rattle.std.proofs.lemmas.Str.Parse.{IsNumeralModel, numerals_by_value}
-use Rattle.script_text.specs.Line.{is_item_number, item_number, IsItemName}
+use Rattle.script_text.specs.Text.{is_item_number, item_number, IsItemName}
 use Rattle.script_text.proofs.Numbers.{first_true, second_true, item-positive}
 
 -- the test of digits is std's

@@ -1,3 +1,7 @@
 pub mod Said
-pub mod Rows
+pub mod Token
+pub mod Text
+pub mod Form
+pub mod Table
 pub mod Line
+pub mod Borrowed

@@ -1,122 +1,92 @@
 -- What a line means: a command, nothing, or the reason why it is refused.
-use Rattle.std.specs.Prelude.{◌≡◌, ◌<◌, ℕ, ◌+◌, ◌^◌, Bool, true, false, ◌&&◌, ◌||◌, ◌==◌, nat_eq, nat_lt, nat_le, not, if◌then◌else◌, List, [], ◌∷◌, length, take, slice_index, codes, Option, Some, None, option_map, Result, Ok, Err, ⊤}
-use Rattle.std.specs.List.{before_first, starts_with, list_all}
-use Rattle.std.specs.Char.{is_ascii_digit}
-use Rattle.std.specs.Fmt.{decimal}
-use Rattle.std.specs.Str.Parse.{digits_value}
+use Rattle.std.specs.Prelude.{◌≡◌, ℕ, ◌+◌, Bool, true, nat_eq, nat_lt, if◌then◌else◌, List, [], ◌∷◌, length, take, codes, Option, Some, None, Result, Ok, Err, ⊤}
+use Rattle.std.specs.List.{starts_with}
 use Rattle.script_text.specs.declared.argument.Arg.{Arg}
-use Rattle.script_text.specs.declared.argument.Arg.TheVariants as args
-use Rattle.script_text.specs.declared.argument.Form.{Form}
-use Rattle.script_text.specs.declared.argument.Form.TheVariants as forms
+use Rattle.script_text.specs.declared.argument.Misfit.{Misfit}
+use Rattle.script_text.specs.declared.argument.Misfit.TheVariants.{OtherForm, OutOfRange}
+use Rattle.script_text.specs.declared.form.Form.{Form}
 use Rattle.script_text.specs.declared.line.Line.{Line}
 use Rattle.script_text.specs.declared.line.Line.TheVariants.{Command, Nothing}
 use Rattle.script_text.specs.declared.line.LineRefusal.{LineRefusal}
-use Rattle.script_text.specs.declared.line.LineRefusal.TheVariants.{LongLine, Syntax, NoMemory}
-use Rattle.script_text.specs.declared.word.Word.{Word}
+use Rattle.script_text.specs.declared.line.LineRefusal.TheVariants.{LongLine, Syntax, Number, NoMemory}
+use Rattle.script_text.specs.Form.{read_arg, left_out, takes_rest}
 use Rattle.script_text.specs.Said.{Said}
-use Rattle.script_text.specs.Rows.{word_of, forms_of, IsWhole}
+use Rattle.script_text.specs.Table.{Entry, table, entry_of, forms_of, keeps_any, IsWhole}
+use Rattle.script_text.specs.Token.{Token, next_of, tokens_of, behind}
 
 -- how many bytes a line may have
 unfoldable pub line_limit : ℕ
 line_limit = 65536
 
--- a blank is a space, a tab or a CR
-abbrev pub is_blank : ℕ → Bool
-is_blank b = b == 32 || (b == 9 || b == 13)
+-- An argument in front of the later ones, or the fault: the leftmost token that isn't of its form, and where each is of
+-- its form, the leftmost number out of range.
+abbrev pub with_later : ℕ → Result Arg Misfit → Result (List Arg) LineRefusal → Result (List Arg) LineRefusal
+with_later column (Err OtherForm) later = Err (Syntax column)
+with_later column (Err OutOfRange) (Err (Syntax further)) = Err (Syntax further)
+with_later column (Err OutOfRange) later = Err (Number column)
+with_later column (Ok arg) (Ok later) = Ok (arg ∷ later)
+with_later column (Ok arg) (Err fault) = Err fault
 
--- a token: a longest run of bytes that aren't blanks, and the column of its first byte
-pub record Token : Type 0 where
-  pub column : ℕ
-  pub bytes : List ℕ
-
--- The tokens that begin in these bytes, the first of which stands in the column. A token begins at each byte that is
--- no blank, unless the byte before it belongs to a token already, and it reaches up to the next blank.
-abbrev pub tokens_after : Bool → ℕ → List ℕ → List Token
-tokens_after in_token column [] = []
-tokens_after in_token column (b ∷ bs) =
-    if is_blank b
-    then tokens_after false (column + 1) bs
-    else if in_token
-    then tokens_after true (column + 1) bs
-    else record { column = column; bytes = before_first is_blank (b ∷ bs) } ∷ tokens_after true (column + 1) bs
-
--- the tokens of the bytes, the first of which stands in the column
-abbrev pub tokens_from : ℕ → List ℕ → List Token
-tokens_from = tokens_after false
-
--- the tokens of a line that are still to be read, and the column behind the last one that was
-pub record Unread : Type 0 where
-  pub column : ℕ
-  pub tokens : List Token
-
--- the column behind a token
-abbrev pub behind : Token → ℕ
-behind token = token.column + length token.bytes
-
--- digits that write a number from 1 to 4,294,967,295 without a leading 0
-abbrev pub is_item_number : List ℕ → Bool
-is_item_number digits =
-    (nat_le 1 (length digits) && nat_le (length digits) 10)
-    && (not (slice_index digits 0 == 48) && (list_all is_ascii_digit digits && nat_lt (digits_value 10 digits) (2 ^ 32)))
-
--- the number that such digits write
-abbrev pub number_of : List ℕ → Option ℕ
-number_of digits = if is_item_number digits then Some (digits_value 10 digits) else None
-
--- the number of an item's name: the letter of its sort, and then the digits
-abbrev pub item_number : ℕ → List ℕ → Option ℕ
-item_number letter [] = None
-item_number letter (b ∷ digits) = if b == letter then number_of digits else None
-
--- the name of an item: the letter of its sort, and then its number as a reply prints it
-abbrev pub IsItemName : ℕ → ℕ → List ℕ → Type 0
-IsItemName letter number bytes = (0 < number) × (number < 2 ^ 32) × (bytes ≡ letter ∷ decimal number)
-
--- the argument of the form that the bytes of a token are; None where the token is of another form
-abbrev pub read_arg : Form → List ℕ → Option Arg
-read_arg forms.Node bytes = option_map args.Node (item_number 110 bytes)
-
--- a token's argument in front of the later ones, or the fault of the first token that isn't of its form
-abbrev pub with_later : ℕ → Option Arg → Result (List Arg) LineRefusal → Result (List Arg) LineRefusal
-with_later column None later = Err (Syntax column)
-with_later column (Some arg) (Ok later) = Ok (arg ∷ later)
-with_later column (Some arg) (Err fault) = Err fault
-
--- The arguments of these forms that the tokens are. An argument that is missing is missed in the column behind the last token.
+-- The arguments of these forms that the tokens are, of which none may be left. An argument that is missing is missed in
+-- the column behind the last token.
 abbrev pub arguments : List Form → ℕ → List Token → Result (List Arg) LineRefusal
 arguments [] missing [] = Ok []
 arguments [] missing (token ∷ tokens) = Err (Syntax token.column)
-arguments (form ∷ forms) missing [] = Err (Syntax missing)
+arguments (form ∷ forms) missing [] = with_later missing (left_out form) (arguments forms missing [])
 arguments (form ∷ forms) missing (token ∷ tokens) =
-    with_later token.column (read_arg form token.bytes) (arguments forms (behind token) tokens)
+    with_later token.column (read_arg form token)
+    (arguments forms (behind token) (if takes_rest form then [] else tokens))
 
--- the command of a word and its arguments
-abbrev pub command_of : Word → Result (List Arg) LineRefusal → Result Line LineRefusal
-command_of word (Ok args) = Ok (Command (record { word = word; args = args }))
-command_of word (Err fault) = Err fault
+-- what a line says by a table: a row, and arguments of its forms
+pub record Reading : Type 0 where
+  pub row : Entry
+  pub args : List Arg
 
--- what a line says whose first token is the word, or no word
-abbrev pub command_line : Option Word → Token → List Token → Result Line LineRefusal
-command_line None first tokens = Err (Syntax first.column)
-command_line (Some word) first tokens = command_of word (arguments (forms_of word) (behind first) tokens)
+-- the row and its arguments
+abbrev pub reading_of : Entry → Result (List Arg) LineRefusal → Result (Option Reading) LineRefusal
+reading_of row (Ok args) = Ok (Some (record { row = row; args = args }))
+reading_of row (Err fault) = Err fault
+
+-- what a line says whose first token chooses the row, or none
+abbrev pub read_row : Option Entry → Token → List Token → Result (Option Reading) LineRefusal
+read_row None first tokens = Err (Syntax first.column)
+read_row (Some row) first tokens = reading_of row (arguments row.forms (behind first) tokens)
 
 -- what the tokens of a line say: nothing where there is none or where the first one begins with `#`
-abbrev pub said_by : List Token → Result Line LineRefusal
-said_by [] = Ok Nothing
-said_by (first ∷ tokens) =
-    if starts_with nat_eq first.bytes (codes "#") then Ok Nothing else command_line (word_of first.bytes) first tokens
+abbrev pub read_tokens : List Entry → List Token → Result (Option Reading) LineRefusal
+read_tokens rows [] = Ok None
+read_tokens rows (first ∷ tokens) =
+    if starts_with nat_eq first.bytes (codes "#") then Ok None
+    else read_row (entry_of rows first.bytes (next_of tokens)) first tokens
+
+-- what a line says by a table
+unfoldable pub read_line : List Entry → List ℕ → Result (Option Reading) LineRefusal
+read_line rows line = if nat_lt line_limit (length line) then Err LongLine else read_tokens rows (tokens_of line)
+
+-- the command of a row and its arguments
+abbrev pub meaning_of : Result (Option Reading) LineRefusal → Result Line LineRefusal
+meaning_of (Ok None) = Ok Nothing
+meaning_of (Ok (Some reading)) = Ok (Command (record { word = reading.row.word; args = reading.args }))
+meaning_of (Err fault) = Err fault
 
 -- what a line means
-unfoldable pub line_of : List ℕ → Result Line LineRefusal
-line_of line = if nat_lt line_limit (length line) then Err LongLine else said_by (tokens_from 1 line)
+abbrev pub line_of : List ℕ → Result Line LineRefusal
+line_of line = meaning_of (read_line table line)
 
--- What is answered to a line of this meaning: the meaning itself, or want of memory in the place of a command. Want of
--- memory never stands in the place of a fault.
+-- a command whose arguments keep bytes of the line
+pub record KeepsBytes (meaning : Result Line LineRefusal) : Type 0 where
+  pub said : Said
+  pub is : meaning ≡ Ok (Command said)
+  pub keeps : keeps_any (forms_of said.word) ≡ true
+
+-- What is answered to a line of this meaning: the meaning itself, or want of memory in the place of a command whose
+-- arguments keep bytes. Want of memory never stands in the place of a fault.
 abbrev pub Reads : Result Line LineRefusal → Result Line LineRefusal → Type 0
 Reads meaning (Ok line) = meaning ≡ Ok line
 Reads meaning (Err LongLine) = meaning ≡ Err LongLine
 Reads meaning (Err (Syntax column)) = meaning ≡ Err (Syntax column)
-Reads meaning (Err NoMemory) = (said : Said) × (meaning ≡ Ok (Command said))
+Reads meaning (Err (Number column)) = meaning ≡ Err (Number column)
+Reads meaning (Err NoMemory) = KeepsBytes meaning
 
 -- a command in the line has just the arguments that its word takes
 abbrev pub IsWholeLine : Line → Type 0

@@ -1,77 +1,97 @@
-//! Arguments of commands, and how a token is read as one.
-ghost use Rattle.std.specs.Prelude.{◌≡◌, ℕ, ◌≤◌, length, IsTrue, IfSome, IfNone};
-ghost use Rattle.std.specs.Char.{is_ascii_digit};
-ghost use Rattle.std.specs.List.{list_all};
-ghost use Rattle.std.specs.Str.Parse.{digits_value};
-ghost use Rattle.script_text.specs.Line.{IsItemName, item_number, number_of, read_arg as the_arg};
+//! The arguments of commands, as they stand in a line and as a command keeps them.
+ghost use Rattle.std.specs.Prelude.{◌≡◌, true, IfOk, OnErr};
+ghost use Rattle.script_text.specs.Borrowed.{arg_seen, has_bytes};
 
-/// What a word asks of an argument.
-#[derive(Clone, Copy, Debug, PartialEq, Eq)]
-pub enum Form {
-    /// The name of a node: `n`, and then its number.
-    Node,
-}
+use graph_defs::{Kept, Mode};
+use leda_base::{NoMemory, Row};
+use std::alloc::Global;
 
 /// An argument of a command.
-#[derive(Debug, Drop, PartialEq, Eq)]
+#[derive(Drop)]
 pub enum Arg {
-    /// The number of a node name, 7 for `n7`: from 1 to 4,294,967,295.
+    /// The number of a node's name, 7 for `n7`: from 1 to 4,294,967,295.
     Node(u32),
+    /// The number of an edge's name, 3 for `e3`.
+    Edge(u32),
+    /// The number of the name of a container's item, 5 for `i5`.
+    Cell(u32),
+    /// The name of an object.
+    Name(Row<u8>),
+    Num(i64),
+    /// What stands between `|{` and `}|`.
+    Label(Row<u8>),
+    /// The word `labels` in the place of a number.
+    Labels,
+    /// The name of a file.
+    File(Row<u8>),
+    Mode(Mode),
+    Kept(Kept),
 }
 
 /// What stands in an unused place of a command's arguments.
 impl Default for Arg {
     fn default() -> Self {
-        Arg::Node(1)
+        Arg::Labels
     }
 }
 
-/// The argument of this form that a token is, or `None` where the token is of another form.
-pub(crate) fn read_arg(form: Form, bytes: &[u8]) -> Option<Arg>
-    ensures { result ≡ the_arg form bytes.now }
-{
-    match form {
-        Form::Node => read_item(b'n', bytes).map(Arg::Node),
+/// An argument as it stands in a line, which owns nothing.
+#[derive(Clone, Copy, Debug, PartialEq, Eq)]
+pub(crate) enum ArgRef<'a> {
+    Node(u32),
+    Edge(u32),
+    Cell(u32),
+    Name(&'a [u8]),
+    Num(i64),
+    Label(&'a [u8]),
+    Labels,
+    File(&'a [u8]),
+    Mode(Mode),
+    Kept(Kept),
+}
+
+/// What stands in an unused place of a line's arguments.
+impl Default for ArgRef<'_> {
+    fn default() -> Self {
+        ArgRef::Labels
     }
 }
 
-/// The number of an item's name: the letter of its sort, and then digits.
-fn read_item(letter: u8, bytes: &[u8]) -> Option<u32>
-    ensures value { result ≡ item_number letter bytes.now }
-    ensures name { IfSome result (λ number. IsItemName letter number bytes.now) }
-    ensures no_name { IfNone result ((number : ℕ) → ¬ IsItemName letter number bytes.now) }
-{
-    match bytes {
-        [first, digits @ ..] if *first == letter => read_number(digits),
-        _ => None,
+impl ArgRef<'_> {
+    /// The argument with bytes of its own.
+    ///
+    /// # Errors
+    /// `NoMemory`, only for an argument that has bytes.
+    pub(crate) fn own(self, alloc: Global) -> Result<Arg, NoMemory>
+        ensures ok { IfOk result (λ arg. arg ≡ arg_seen self.entry) }
+        ensures err { OnErr result (has_bytes (arg_seen self.entry) ≡ true) }
+    {
+        match self {
+            ArgRef::Node(number) => Ok(Arg::Node(number)),
+            ArgRef::Edge(number) => Ok(Arg::Edge(number)),
+            ArgRef::Cell(number) => Ok(Arg::Cell(number)),
+            ArgRef::Name(name) => Ok(Arg::Name(row_of(alloc, name)?)),
+            ArgRef::Num(value) => Ok(Arg::Num(value)),
+            ArgRef::Label(label) => Ok(Arg::Label(row_of(alloc, label)?)),
+            ArgRef::Labels => Ok(Arg::Labels),
+            ArgRef::File(file) => Ok(Arg::File(row_of(alloc, file)?)),
+            ArgRef::Mode(mode) => Ok(Arg::Mode(mode)),
+            ArgRef::Kept(sort) => Ok(Arg::Kept(sort)),
+        }
     }
 }
 
-/// The number that 1 to 10 digits write, of which the first is not 0.
-fn read_number(digits: &[u8]) -> Option<u32>
-    ensures { result ≡ number_of digits.now }
+fn row_of(alloc: Global, bytes: &[u8]) -> Result<Row<u8>, NoMemory>
+    ensures { IfOk result (λ row. row ≡ bytes.now) }
 {
-    if digits.is_empty() || digits.len() > 10 || digits[0] == b'0' || !all_digits(digits) {
-        return None;
-    }
-    u32::try_from(value_of(digits)).ok()
+    Ok(Row::from_vec(Vec::from_slice(alloc, bytes)?))
 }
 
-fn all_digits(bytes: &[u8]) -> bool
-    ensures { result ≡ list_all is_ascii_digit bytes.now }
-{
-    bytes.iter().all(|byte| byte.is_ascii_digit())
-}
-
-/// The number that at most ten digits write.
-fn value_of(digits: &[u8]) -> u64
-    requires digits { IsTrue (list_all is_ascii_digit digits.now) }
-    requires short { length digits.now ≤ 10 }
-    ensures { result ≡ digits_value 10 digits.now }
-{
-    let mut value: u64 = 0;
-    for digit in digits {
-        value = value * 10 + u64::from(*digit - b'0');
-    }
-    value
+/// Why a token is no argument of the form that is asked for.
+#[derive(Clone, Copy, Debug, PartialEq, Eq)]
+pub(crate) enum Misfit {
+    /// The token is of another form.
+    OtherForm,
+    /// The token is a number outside the range of 64 bits.
+    OutOfRange,
 }

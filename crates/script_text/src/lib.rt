@@ -2,16 +2,22 @@
 //!
 //! A token is a longest run of bytes that aren't blanks, and a blank is a space, a tab or a CR.
 //! The first token of a line is the command word, and the others are its arguments.
-//! Which words there are, and the forms of their arguments, stand in one table, `specs/Rows.antt`.
+//! Which words there are, and what each asks of its arguments, stands in one table, `src/table.rt`.
 #![tactic(auto)]
 
-pub use argument::{Arg, Form};
+pub use argument::Arg;
 pub use command::Command;
+pub use form::{Form, Kinds, Sight};
 pub use line::{LINE_LIMIT, Line, LineRefusal, parse_line};
-pub use word::{EditWord, QueryWord, Word, forms_of};
+pub use table::Memory;
+pub use word::{EditWord, QueryWord, Word};
 
 mod argument;
 mod command;
+mod form;
 mod line;
+mod reading;
+mod table;
+mod text;
 mod token;
 mod word;

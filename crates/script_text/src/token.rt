@@ -1,16 +1,18 @@
 //! The tokens of a line.
-ghost use Rattle.std.specs.Prelude.{◌≡◌, ◌+◌, ◌<◌, ◌≤◌, ◌∷◌, [], length, MatchOption, IfSome, position, not};
+ghost use Rattle.std.specs.Prelude.{◌≡◌, ◌+◌, ◌<◌, ◌≤◌, ◌∷◌, [], length, drop, MatchOption, IfSome, option_map, position, not};
 ghost use Rattle.std.specs.List.{position_or_len};
-ghost use Rattle.script_text.specs.Line.{is_blank as blank, tokens_from};
+ghost use Rattle.script_text.specs.Borrowed.{token_seen};
+ghost use Rattle.script_text.specs.Token.{is_blank as blank, trimmed as without_blanks, next_of, tokens_from, tokens_of};
 
 use crate::line::LINE_LIMIT;
 use std::marker::Model;
 
-/// A token, with the column of its first byte.
+/// A token, with the column of its first byte, and the rest of its line from there on without the blanks at the end.
 #[derive(Clone, Copy)]
 pub(crate) struct Token<'a> {
     pub column: u32,
     pub bytes: &'a [u8],
+    pub tail: &'a [u8],
 }
 
 /// The tokens of a line that are still to be read.
@@ -22,7 +24,7 @@ pub(crate) struct Tokens<'a> {
 
 impl<'a> Model for Tokens<'a> {
     ghost use Rattle.std.specs.Prelude.{◌+◌, ◌≤◌, length};
-    ghost use Rattle.script_text.specs.Line.{Unread, tokens_from};
+    ghost use Rattle.script_text.specs.Token.{Unread, tokens_from};
 
     ghost Value = { Unread };
 
@@ -36,11 +38,11 @@ impl<'a> Tokens<'a> {
     pub fn new(line: &'a [u8]) -> Self
         requires { length line.now ≤ LINE_LIMIT }
         ensures column { result.column ≡ 1 }
-        ensures tokens { result.tokens ≡ tokens_from 1 line.now }
+        ensures tokens { result.tokens ≡ tokens_of line.now }
     {
         Tokens {
             column: 1,
-            bytes: line,
+            bytes: trimmed(line),
         }
     }
 
@@ -51,20 +53,45 @@ impl<'a> Tokens<'a> {
         self.column
     }
 
+    /// The next token, which stays to be read.
+    pub fn peek(&self) -> Option<Token<'a>>
+        ensures first { option_map token_seen result ≡ next_of self.now.tokens }
+        ensures rest { MatchOption result (self.now.tokens ≡ [])
+            (λ token. self.now.tokens ≡ token_seen token
+            ∷ tokens_from (token.column + length token.bytes.now) (drop (length token.bytes.now) token.tail.now)) }
+        ensures within { IfSome result (λ token. (length token.bytes.now ≤ length token.tail.now)
+            × (token.column + length token.tail.now ≤ 65537)) }
+    {
+        let blanks = first_visible(self.bytes)?;
+        let (_, tail) = self.bytes.split_at(blanks);
+        let (bytes, _) = tail.split_at(token_len(tail));
+        Some(Token {
+            column: self.column + blanks as u32,
+            bytes,
+            tail,
+        })
+    }
+
     /// Reads the next token.
     pub fn next_token(&mut self) -> Option<Token<'a>>
         ensures { MatchOption result
             ((self.old.tokens ≡ []) × (self.new ≡ self.old))
-            (λ token. (self.old.tokens ≡ record { column = token.column; bytes = token.bytes.now } ∷ self.new.tokens)
+            (λ token. (self.old.tokens ≡ token_seen token ∷ self.new.tokens)
             × (self.new.column ≡ token.column + length token.bytes.now)) }
     {
-        let blanks = first_visible(self.bytes)?;
-        let (_, visible) = self.bytes.split_at(blanks);
-        let (bytes, rest) = visible.split_at(token_len(visible));
-        let column = self.column + blanks as u32;
-        self.column = column + bytes.len() as u32;
+        let token = self.peek()?;
+        let (bytes, rest) = token.tail.split_at(token.bytes.len());
+        self.column = token.column + bytes.len() as u32;
         self.bytes = rest;
-        Some(Token { column, bytes })
+        Some(token)
+    }
+
+    /// Takes all that is left of the line.
+    pub fn skip_rest(&mut self)
+        ensures column { self.new.column ≡ self.old.column }
+        ensures tokens { self.new.tokens ≡ [] }
+    {
+        self.bytes = &[];
     }
 }
 
@@ -72,6 +99,20 @@ fn is_blank(byte: u8) -> bool
     ensures { result ≡ blank byte }
 {
     byte == b' ' || byte == b'\t' || byte == b'\r'
+}
+
+/// The bytes without the blanks at their end.
+fn trimmed(line: &[u8]) -> &[u8]
+    ensures value { result.now ≡ without_blanks line.now }
+    ensures within { length result.now ≤ length line.now }
+{
+    let mut bytes = line;
+    while let [front @ .., last] = bytes
+        && is_blank(*last)
+    {
+        bytes = front;
+    }
+    bytes
 }
 
 /// The place of the first byte that is no blank.

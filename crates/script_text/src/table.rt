@@ -1,0 +1,90 @@
+//! The table of commands: how each is spelled, its word, the forms of its arguments, and whether it takes memory.
+ghost use Rattle.std.specs.Prelude.{◌≡◌, ◌&&◌, bytes_eq, find, map, option_map};
+ghost use Rattle.script_text.specs.Borrowed.{entry_seen, token_seen};
+ghost use Rattle.script_text.specs.Table.{table, entry_of as the_entry, may_begin};
+
+use crate::argument::Misfit;
+use crate::form::{Form, Sight, read_arg};
+use crate::token::Token;
+use crate::word::{EditWord, QueryWord, Word};
+
+/// Whether running a command takes memory, so that it may be answered by want of memory.
+#[derive(Clone, Copy, Debug, PartialEq, Eq)]
+pub enum Memory {
+    NotTaken,
+    /// It may be taken. The reply fits the room that is there from the start.
+    Taken,
+    /// It may be taken, for the text of the reply too, which may be of any length.
+    TakenByReply,
+}
+
+/// A row of the table: the spelling, the word, the forms of the arguments in order, and the memory.
+///
+/// A tuple, since clauses can cite no constant of a struct with references.
+pub(crate) type Entry = (&'static str, Word, &'static [Form], Memory);
+
+const NODE: Form = Form::Node(Sight::Visible);
+
+/// Writes the rows of a table, one a line: the spelling, the word, what is asked of each argument, and the memory.
+macro_rules! rows {
+    ($($spelling:literal $kind:ident($word:expr) [$($form:expr),*] $memory:ident;)*) => {
+        [$(($spelling, Word::$kind($word), &[$($form),*], Memory::$memory)),*]
+    };
+}
+
+#[cfg(test)]
+pub(crate) use rows;
+
+/// The table. All that is said of a command before it runs is said here.
+pub(crate) const TABLE: [Entry; 3] = rows! {
+    "node"   Edit(EditWord::Node)    []            Taken;
+    "edge"   Edit(EditWord::Edge)    [NODE, NODE]  Taken;
+    "reach"  Query(QueryWord::Reach) [NODE, NODE]  TakenByReply;
+};
+
+/// The rows of the table.
+pub(crate) fn table() -> &'static [Entry]
+    ensures { map entry_seen result.now ≡ table }
+{
+    &TABLE
+}
+
+/// Whether the arguments of these forms may begin with the token.
+fn may_begin(forms: &[Form], next: Option<Token<'_>>) -> bool
+    ensures { result ≡ may_begin forms.now (option_map token_seen next.entry) }
+{
+    match (forms, next) {
+        ([form, ..], Some(token)) => read_arg(*form, token) != Err(Misfit::OtherForm),
+        _ => true,
+    }
+}
+
+/// The row that a line's first token and the next one choose.
+pub(crate) fn entry_of(rows: &[Entry], spelling: &[u8], next: Option<Token<'_>>) -> Option<Entry>
+    ensures { option_map entry_seen result
+        ≡ the_entry (map entry_seen rows.now) spelling.now (option_map token_seen next.entry) }
+{
+    match first_begun(rows, spelling, next) {
+        Some(entry) => Some(entry),
+        None => first_spelled(rows, spelling),
+    }
+}
+
+/// The first row of this spelling whose arguments may begin with the token.
+fn first_begun(rows: &[Entry], spelling: &[u8], next: Option<Token<'_>>) -> Option<Entry>
+    ensures { result ≡ find (λ entry. bytes_eq entry.0.now spelling.now
+        && may_begin entry.2.now (option_map token_seen next.entry)) rows.now }
+{
+    rows.iter()
+        .find(|entry| entry.0.as_bytes() == spelling && may_begin(entry.2, next))
+        .copied()
+}
+
+/// The first row of this spelling.
+fn first_spelled(rows: &[Entry], spelling: &[u8]) -> Option<Entry>
+    ensures { result ≡ find (λ entry. bytes_eq entry.0.now spelling.now) rows.now }
+{
+    rows.iter()
+        .find(|entry| entry.0.as_bytes() == spelling)
+        .copied()
+}
