@@ -21,7 +21,8 @@ kept_most-more = refl
 -- a line above the limit is refused, whatever it holds
 read_line-long : (line : List ℕ) → line_limit < length line → read_line table line ≡ Err LongLine
 unfolding read_line
-read_line-long line h = let long : nat_lt line_limit (length line) ≡ true = grind (arith, nat_tests) in rw long refl
+read_line-long line h = let long : nat_lt line_limit (length line)
+    ≡ true = grind (arith, nat_tests) in rw long refl
 
 pub line_of-long : (line : List ℕ) → line_limit < length line → line_of line ≡ Err LongLine
 line_of-long line h = ap meaning_of (read_line-long line h)
@@ -30,10 +31,13 @@ line_of-long line h = ap meaning_of (read_line-long line h)
 pub line_of-kept : (line : List ℕ) → line_of (kept_of line) ≡ line_of line
 line_of-kept line = by_test (nat_le (length line) kept_most) refl
   where
-    by_test : (v : Bool) → nat_le (length line) kept_most ≡ v → line_of (kept_of line) ≡ line_of line
-    by_test true e = let short : length line ≤ kept_most = grind (arith, nat_tests) in ap line_of (take_all kept_most line short)
+    by_test : (v : Bool) → nat_le (length line) kept_most ≡ v
+        → line_of (kept_of line) ≡ line_of line
+    by_test true e = let short : length line ≤ kept_most = grind (arith, nat_tests) in ap line_of
+        (take_all kept_most line short)
     by_test false e =
         let long : kept_most < length line = grind (arith, nat_tests) in
         let more : kept_most ≡ line_limit + 1 = kept_most-more in
-        let kept : length (kept_of line) ≡ kept_most = length-take-le kept_most line (omega arith) in
+        let kept : length (kept_of line) ≡ kept_most = length-take-le kept_most line
+        (omega arith) in
         line_of-long (kept_of line) (omega arith) ∙ sym (line_of-long line (omega arith))

@@ -10,12 +10,14 @@ use Rattle.std.proofs.lemmas.Str.Parse.{digits_value-take-le}
 use Rattle.std.proofs.lemmas.Int.Digits.{digits_value_more}
 use Rattle.std.proofs.lemmas.List.Folds.{list_all_at}
 
-digit_at : (ds : List ℕ) (i : ℕ) → list_all is_ascii_digit ds ≡ true → i < length ds → is_ascii_digit (get_or ds i 0) ≡ true
+digit_at : (ds : List ℕ) (i : ℕ) → list_all is_ascii_digit ds ≡ true → i < length ds
+    → is_ascii_digit (get_or ds i 0) ≡ true
 digit_at ds i all h = by_test (is_ascii_digit (get_or ds i 0)) refl
   where
     by_test : (v : Bool) → is_ascii_digit (get_or ds i 0) ≡ v → v ≡ true
     by_test true e = refl
-    by_test false e = let f : list_all is_ascii_digit ds ≡ false = list_all_at is_ascii_digit ds i 0 h e in cc
+    by_test false e = let f : list_all is_ascii_digit ds
+        ≡ false = list_all_at is_ascii_digit ds i 0 h e in cc
 
 digit_value-is : (c : ℕ) → is_ascii_digit c ≡ true → (digit_value c ≡ c - 48) × (c - 48 < 10)
 digit_value-is c e = grind (arith, nat_tests)
@@ -23,10 +25,15 @@ digit_value-is c e = grind (arith, nat_tests)
 -- the value of one digit more, and its bound
 pub value_more : (ds : List ℕ) (i value : ℕ) → list_all is_ascii_digit ds ≡ true → i < length ds
     → value ≡ digits_value 10 (take i ds) → value < 10 ^ i
-    → (value * 10 + (get_or ds i 0 - 48) ≡ digits_value 10 (take (i + 1) ds)) × (value * 10 + (get_or ds i 0 - 48) < 10 ^ (i + 1))
+    → (value * 10 + (get_or ds i 0 - 48) ≡ digits_value 10 (take (i + 1) ds)) ×
+    (value * 10 + (get_or ds i 0 - 48) < 10 ^ (i + 1))
 value_more ds i value all h is small =
-    let digit : (digit_value (get_or ds i 0) ≡ get_or ds i 0 - 48) × (get_or ds i 0 - 48 < 10) = digit_value-is (get_or ds i 0) (digit_at ds i all h) in
-    (omega (arith, digits_value_more 10 ds i h, digit.0, is), omega (arith, pow_more 10 i, digit.1, small))
+    let digit : (digit_value (get_or ds i 0) ≡ get_or ds i 0 - 48) ×
+    (get_or ds i 0 - 48 < 10) = digit_value-is (get_or ds i 0) (digit_at ds i all h) in (
+      omega (arith, digits_value_more 10 ds i h, digit.0, is),
+      omega
+          (arith, pow_more 10 i, digit.1, small),
+    )
 
 -- the first of two tests that both pass
 pub first_true : (a b : Bool) → (a && b) ≡ true → a ≡ true
@@ -43,7 +50,8 @@ digit-positive : (c : ℕ) → is_ascii_digit c ≡ true → not (c == 48) ≡ t
 digit-positive c digit e = grind (arith, nat_tests)
 
 -- digits that don't begin with 0 write a number that isn't 0
-value-positive : (digits : List ℕ) → nat_le 1 (length digits) ≡ true → not (get_or digits 0 0 == 48) ≡ true → list_all is_ascii_digit digits ≡ true
+value-positive : (digits : List ℕ) → nat_le 1 (length digits) ≡ true
+    → not (get_or digits 0 0 == 48) ≡ true → list_all is_ascii_digit digits ≡ true
     → 0 < digits_value 10 digits
 value-positive [] h first all = cc
 value-positive (c ∷ cs) h first all =
@@ -54,5 +62,6 @@ value-positive (c ∷ cs) h first all =
 pub item-positive : (digits : List ℕ) → is_item_number digits ≡ true → 0 < digits_value 10 digits
 item-positive digits e =
     let first : not (get_or digits 0 0 == 48) ≡ true = first_true _ _ (second_true _ _ e) in
-    let all : list_all is_ascii_digit digits ≡ true = first_true _ _ (second_true _ _ (second_true _ _ e)) in
+    let all : list_all is_ascii_digit digits
+    ≡ true = first_true _ _ (second_true _ _ (second_true _ _ e)) in
     value-positive digits (first_true _ _ (first_true _ _ e)) first all

@@ -1,4 +1,4 @@
--- How the tokens of the bytes follow from where the first byte that is no blank stands, and the first blank behind it.
+-- The tokens of bytes by the first byte that is no blank and the first blank behind it.
 use Rattle.std.proofs.Common.{◌≡◌, ℕ, ◌+◌, ◌-◌, ◌<◌, ◌≤◌, Bool, true, false, not, nat_lt, cond, List, [], ◌∷◌, ◌++◌, ◌==◌, ◌&&◌, if◌then◌else◌, length, length-append, get_or, take, drop, Some, None, unwrap_or, suc, refl, sym, ◌∙◌, ap, arith, add-zero}
 use Rattle.std.specs.List.{position, position_or_len, before_first}
 use Rattle.std.proofs.Math.Numerals.{one-add}
@@ -20,27 +20,32 @@ BeginAt tokens column xs place = tokens ≡ tokens_from (column + place) (drop p
 further : (tokens : List Token) (column b : ℕ) (bs : List ℕ) (place : ℕ)
     → BeginAt tokens (column + 1) bs place → BeginAt tokens column (b ∷ bs) (1 + place)
 further tokens column b bs place later =
-    rw one-add (later ∙ ap (λ k. tokens_from k (drop place bs)) (let s : column + 1 + place ≡ column + suc place = omega arith in s))
+    rw one-add (later ∙ ap (λ k. tokens_from k (drop place bs))
+    (let s : column + 1 + place ≡ column + suc place = omega arith in s))
 
 -- the bytes from the first visible one on have the same tokens
-skip : (xs : List ℕ) (column : ℕ) → BeginAt (tokens_from column xs) column xs (position_or_len is_visible xs)
+skip : (xs : List ℕ) (column : ℕ) → BeginAt (tokens_from column xs) column xs
+    (position_or_len is_visible xs)
 skip [] column = refl
 skip (b ∷ bs) column = skip_one (is_blank b) refl (skip bs (column + 1))
   where
     skip_one : (v : Bool) → is_blank b ≡ v
         → BeginAt (tokens_from (column + 1) bs) (column + 1) bs (position_or_len is_visible bs)
-        → BeginAt (tokens_from column (b ∷ bs)) column (b ∷ bs) (position_or_len is_visible (b ∷ bs))
+        → BeginAt (tokens_from column (b ∷ bs)) column (b ∷ bs)
+        (position_or_len is_visible (b ∷ bs))
     skip_one true e later = rw e (further _ column b bs _ later)
     skip_one false e later = simp (e, add-zero)
 
 -- inside a token, the tokens that begin are those that begin from the first blank on
-leave : (xs : List ℕ) (column : ℕ) → BeginAt (tokens_after true column xs) column xs (position_or_len is_blank xs)
+leave : (xs : List ℕ) (column : ℕ) → BeginAt (tokens_after true column xs) column xs
+    (position_or_len is_blank xs)
 leave [] column = refl
 leave (b ∷ bs) column = leave_one (is_blank b) refl (leave bs (column + 1))
   where
     leave_one : (v : Bool) → is_blank b ≡ v
         → BeginAt (tokens_after true (column + 1) bs) (column + 1) bs (position_or_len is_blank bs)
-        → BeginAt (tokens_after true column (b ∷ bs)) column (b ∷ bs) (position_or_len is_blank (b ∷ bs))
+        → BeginAt (tokens_after true column (b ∷ bs)) column (b ∷ bs)
+        (position_or_len is_blank (b ∷ bs))
     leave_one true e later = simp (e, add-zero)
     leave_one false e later = rw e (further _ column b bs _ later)
 
@@ -51,21 +56,26 @@ with_first column xs =
     ∷ tokens_from (column + position_or_len is_blank xs) (drop (position_or_len is_blank xs) xs)
 
 -- bytes that begin with a visible one begin with a token
-begin : (b : ℕ) (bs : List ℕ) (column : ℕ) → is_blank b ≡ false → tokens_from column (b ∷ bs) ≡ with_first column (b ∷ bs)
+begin : (b : ℕ) (bs : List ℕ) (column : ℕ) → is_blank b ≡ false
+    → tokens_from column (b ∷ bs) ≡ with_first column (b ∷ bs)
 begin b bs column e =
-    rw e (ap (λ (later : List Token). record { column = column; bytes = take (1 + position_or_len is_blank bs) (b ∷ bs); tail = b ∷ bs } ∷ later)
+    rw e (ap (λ (later : List Token). record
+    { column = column; bytes = take (1 + position_or_len is_blank bs) (b ∷ bs); tail = b ∷ bs }
+    ∷ later)
     (further _ column b bs _ (leave bs (column + 1))))
 
 -- where the first visible byte is known
 place : (xs : List ℕ) (k : ℕ) → position is_visible xs ≡ Some k → position_or_len is_visible xs ≡ k
 place xs k e = by_test (nat_lt (position_or_len is_visible xs) (length xs)) e
   where
-    by_test : (v : Bool) → cond v (Some (position_or_len is_visible xs)) None ≡ Some k → position_or_len is_visible xs ≡ k
+    by_test : (v : Bool) → cond v (Some (position_or_len is_visible xs)) None ≡ Some k
+        → position_or_len is_visible xs ≡ k
     by_test true found = cc
     by_test false found = cc
 
 -- where there is none
-no_place : (xs : List ℕ) → position is_visible xs ≡ None → nat_lt (position_or_len is_visible xs) (length xs) ≡ false
+no_place : (xs : List ℕ) → position is_visible xs ≡ None
+    → nat_lt (position_or_len is_visible xs) (length xs) ≡ false
 no_place xs e = by_test (nat_lt (position_or_len is_visible xs) (length xs)) e
   where
     by_test : (v : Bool) → cond v (Some (position_or_len is_visible xs)) None ≡ None → v ≡ false
@@ -73,9 +83,11 @@ no_place xs e = by_test (nat_lt (position_or_len is_visible xs) (length xs)) e
     by_test false found = refl
 
 -- no visible byte, no token
-pub tokens_from-none : (xs : List ℕ) (column : ℕ) → position is_visible xs ≡ None → tokens_from column xs ≡ []
+pub tokens_from-none : (xs : List ℕ) (column : ℕ) → position is_visible xs ≡ None
+    → tokens_from column xs ≡ []
 tokens_from-none xs column e =
-    skip xs column ∙ ap (tokens_from (column + position_or_len is_visible xs)) (drop_all (position_or_len is_visible xs) xs (past _ _ (no_place xs e)))
+    skip xs column ∙ ap (tokens_from (column + position_or_len is_visible xs))
+    (drop_all (position_or_len is_visible xs) xs (past _ _ (no_place xs e)))
   where
     past : (m n : ℕ) → nat_lt m n ≡ false → n ≤ m
     past m n f = grind (arith, nat_tests)
@@ -92,23 +104,29 @@ no_blank b e = by_test (is_blank b) e
 pub tokens_from-some : (xs : List ℕ) (column k : ℕ) → position is_visible xs ≡ Some k
     → tokens_from column xs ≡ with_first (column + k) (drop k xs)
 tokens_from-some xs column k e =
-    let found : (k < length xs) × (is_visible (get_or xs k 0) ≡ true) × ((i : ℕ) → i < k → is_visible (get_or xs i 0) ≡ false) = position-Some is_visible xs k 0 e in
+    let found : (k < length xs) × (is_visible (get_or xs k 0) ≡ true) × ((i : ℕ) → i < k
+    → is_visible (get_or xs i 0) ≡ false) = position-Some is_visible xs k 0 e in
     let rest : drop k xs ≡ get_or xs k 0 ∷ drop (k + 1) xs = drop_more xs k 0 found.0 in
-    let skipped : BeginAt (tokens_from column xs) column xs k = rw (place xs k e) at (skip xs column) in
-    skipped ∙ rw rest (begin (get_or xs k 0) (drop (k + 1) xs) (column + k) (no_blank (get_or xs k 0) found.1))
+    let skipped : BeginAt (tokens_from column xs) column xs k = rw (place xs k e) at
+    (skip xs column) in
+    skipped ∙ rw rest (begin (get_or xs k 0) (drop (k + 1) xs) (column + k)
+    (no_blank (get_or xs k 0) found.1))
 
 -- a number that isn't below a bound and doesn't pass it is the bound
 ends : (m n : ℕ) → nat_lt m n ≡ false → m ≤ n → n ≡ m
 ends m n f h = grind (arith, nat_tests)
 
 -- the first blank, or the end
-pub position_or_len-is : (xs : List ℕ) → unwrap_or (position is_blank xs) (length xs) ≡ position_or_len is_blank xs
+pub position_or_len-is : (xs : List ℕ) → unwrap_or (position is_blank xs) (length xs)
+    ≡ position_or_len is_blank xs
 position_or_len-is xs = by_test (nat_lt (position_or_len is_blank xs) (length xs)) refl
   where
     by_test : (v : Bool) → nat_lt (position_or_len is_blank xs) (length xs) ≡ v
-        → unwrap_or (cond v (Some (position_or_len is_blank xs)) None) (length xs) ≡ position_or_len is_blank xs
+        → unwrap_or (cond v (Some (position_or_len is_blank xs)) None) (length xs)
+        ≡ position_or_len is_blank xs
     by_test true f = refl
-    by_test false f = ends (position_or_len is_blank xs) (length xs) f (prefix_len-le-length (λ b. not (is_blank b)) xs)
+    by_test false f = ends (position_or_len is_blank xs) (length xs) f
+        (prefix_len-le-length (λ b. not (is_blank b)) xs)
 
 -- the first token, as it is cut out of the bytes
 pub tokens_from-cut : (xs tail bytes : List ℕ) (column k n : ℕ)
@@ -121,19 +139,23 @@ tokens_from-cut xs tail bytes column k n found tail_is n_is bytes_is len_is =
     rw (len_is, bytes_is, n_is, tail_is) (tokens_from-some xs column k (sym found))
 
 -- a blank at the end doesn't count
-pub trimmed-blank : (front : List ℕ) (last : ℕ) → is_blank last ≡ true → trimmed (front ++ last ∷ []) ≡ trimmed front
+pub trimmed-blank : (front : List ℕ) (last : ℕ) → is_blank last ≡ true
+    → trimmed (front ++ last ∷ []) ≡ trimmed front
 trimmed-blank [] last e = rw e refl
 trimmed-blank (b ∷ bs) last e = rw (trimmed-blank bs last e) refl
 
 -- bytes that end with no blank are trimmed
-pub trimmed-visible : (front : List ℕ) (last : ℕ) → is_blank last ≡ false → trimmed (front ++ last ∷ []) ≡ front ++ last ∷ []
+pub trimmed-visible : (front : List ℕ) (last : ℕ) → is_blank last ≡ false
+    → trimmed (front ++ last ∷ []) ≡ front ++ last ∷ []
 trimmed-visible [] last e = rw e refl
 trimmed-visible (b ∷ bs) last e = rw (trimmed-visible bs last e) (by_test (is_blank b))
   where
     some : (length (bs ++ last ∷ []) == 0) ≡ false
-    some = let more : length (bs ++ last ∷ []) ≡ length bs + 1 = length-append bs (last ∷ []) in grind (arith, nat_tests)
+    some = let more : length (bs ++ last ∷ [])
+        ≡ length bs + 1 = length-append bs (last ∷ []) in grind (arith, nat_tests)
 
-    by_test : (v : Bool) → (if v && length (bs ++ last ∷ []) == 0 then [] else b ∷ (bs ++ last ∷ [])) ≡ b ∷ (bs ++ last ∷ [])
+    by_test : (v : Bool) → (if v && length (bs ++ last ∷ []) == 0 then [] else b ∷
+        (bs ++ last ∷ [])) ≡ b ∷ (bs ++ last ∷ [])
     by_test true = rw some refl
     by_test false = refl
 
@@ -147,11 +169,16 @@ split_last bytes h =
     ∙ take_more bytes (length bytes - 1) 0 last
 
 -- where the last byte is a blank, those before it mean as much
-pub trimmed-drop : (bytes : List ℕ) → 1 ≤ length bytes → is_blank (get_or bytes (length bytes - 1) 0) ≡ true
+pub trimmed-drop : (bytes : List ℕ) → 1 ≤ length bytes
+    → is_blank (get_or bytes (length bytes - 1) 0) ≡ true
     → trimmed (take (length bytes - 1) bytes) ≡ trimmed bytes
-trimmed-drop bytes h e = sym (ap trimmed (split_last bytes h) ∙ trimmed-blank (take (length bytes - 1) bytes) (get_or bytes (length bytes - 1) 0) e)
+trimmed-drop bytes h e = sym (ap trimmed (split_last bytes h)
+    ∙ trimmed-blank (take (length bytes - 1) bytes) (get_or bytes (length bytes - 1) 0) e)
 
 -- where it is none, the bytes are trimmed
-pub trimmed-keep : (bytes : List ℕ) → 1 ≤ length bytes → is_blank (get_or bytes (length bytes - 1) 0) ≡ false
+pub trimmed-keep : (bytes : List ℕ) → 1 ≤ length bytes
+    → is_blank (get_or bytes (length bytes - 1) 0) ≡ false
     → bytes ≡ trimmed bytes
-trimmed-keep bytes h e = split_last bytes h ∙ sym (ap trimmed (split_last bytes h) ∙ trimmed-visible (take (length bytes - 1) bytes) (get_or bytes (length bytes - 1) 0) e)
+trimmed-keep bytes h e = split_last bytes h
+    ∙ sym (ap trimmed (split_last bytes h)
+    ∙ trimmed-visible (take (length bytes - 1) bytes) (get_or bytes (length bytes - 1) 0) e)

@@ -17,7 +17,8 @@ use Rattle.script_text.specs.Token.{Token, Unread}
 
 -- a row of the code's table
 abbrev pub entry_seen : Bor (List ℕ) × Word × Bor (List Form) × Memory → Entry
-entry_seen entry = record { spelling = entry.0.now; word = entry.1; forms = entry.2.now; memory = entry.3 }
+entry_seen entry =
+    record { spelling = entry.0.now; word = entry.1; forms = entry.2.now; memory = entry.3 }
 
 -- a token in the line
 abbrev pub token_seen : TokenRef → Token
@@ -56,8 +57,9 @@ are_short rows = list_all (λ entry. nat_le (length entry.forms) 8) rows
 abbrev pub IsEntry : Entry → Type 0
 IsEntry entry = entry.forms ≡ forms_of entry.word
 
--- What reading the next argument tells, whatever forms come later: what was read, at its column, stands in front of their
--- arguments.
-pub record ReadsNext (form : Form) (old : Unread) (column : ℕ) (read : Result Arg Misfit) (new : Unread) : Type 0 where
-  pub later : (forms : List Form)
-      → arguments (form ∷ forms) old.column old.tokens ≡ with_later column read (arguments forms new.column new.tokens)
+-- What reading the next argument tells, whatever forms come later: what was read, at its column,
+-- stands in front of their arguments.
+pub record ReadsNext (form : Form) (old : Unread) (column : ℕ) (read : Result Arg Misfit)
+    (new : Unread) : Type 0 where
+  pub later : (forms : List Form) → arguments (form ∷ forms) old.column old.tokens
+      ≡ with_later column read (arguments forms new.column new.tokens)

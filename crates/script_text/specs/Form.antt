@@ -16,30 +16,42 @@ use Rattle.script_text.specs.Token.{Token}
 abbrev pub or_other : Option Arg → Result Arg Misfit
 or_other arg = ok_or arg OtherForm
 
--- the bytes, where the test says that they are of the form
-abbrev pub tested : Bool → List ℕ → Option (List ℕ)
-tested test bytes = if test then Some bytes else None
+-- the name of a node or of an edge
+abbrev pub element_arg : List ℕ → Option Arg
+element_arg bytes =
+    option_or (option_map args.Node (node_number bytes)) (option_map args.Edge (edge_number bytes))
+
+-- the name of an object
+abbrev pub name_arg : List ℕ → Result Arg Misfit
+name_arg bytes = if is_name bytes then Ok (args.Name bytes) else Err OtherForm
 
 -- a number, if it is one, and in the range of 64 bits
 abbrev pub number_arg : Option ℤ → Result Arg Misfit
 number_arg None = Err OtherForm
 number_arg (Some value) = if is_i64 value then Ok (args.Num value) else Err OutOfRange
 
+-- the word `labels`, or else a number
+abbrev pub labels_arg : List ℕ → Result Arg Misfit
+labels_arg bytes =
+    if bytes_eq bytes (codes "labels") then Ok args.Labels else number_arg (integer_of bytes)
+
+-- the name of a file
+abbrev pub file_arg : List ℕ → Result Arg Misfit
+file_arg bytes = if is_file bytes then Ok (args.File bytes) else Err OtherForm
+
 -- the argument that a token is; or the token is of another form, or a number out of range
 abbrev pub read_arg : Form → Token → Result Arg Misfit
 read_arg (forms.Node sight) token = or_other (option_map args.Node (node_number token.bytes))
 read_arg (forms.Edge sight) token = or_other (option_map args.Edge (edge_number token.bytes))
-read_arg (forms.Element sight) token =
-    or_other (option_or (option_map args.Node (node_number token.bytes)) (option_map args.Edge (edge_number token.bytes)))
+read_arg (forms.Element sight) token = or_other (element_arg token.bytes)
 read_arg (forms.Cell kinds) token = or_other (option_map args.Cell (cell_number token.bytes))
-read_arg (forms.Object kinds) token = or_other (option_map args.Name (tested (is_name token.bytes) token.bytes))
-read_arg forms.NewName token = or_other (option_map args.Name (tested (is_name token.bytes) token.bytes))
+read_arg (forms.Object kinds) token = name_arg token.bytes
+read_arg forms.NewName token = name_arg token.bytes
 read_arg forms.Num token = number_arg (integer_of token.bytes)
-read_arg forms.NumOrLabels token =
-    if bytes_eq token.bytes (codes "labels") then Ok args.Labels else number_arg (integer_of token.bytes)
+read_arg forms.NumOrLabels token = labels_arg token.bytes
 read_arg forms.Label token = or_other (option_map args.Label (label_of token.tail))
 read_arg forms.OptionalLabel token = or_other (option_map args.Label (label_of token.tail))
-read_arg forms.File token = or_other (option_map args.File (tested (is_file token.bytes) token.bytes))
+read_arg forms.File token = file_arg token.bytes
 read_arg forms.Mode token = or_other (option_map args.Mode (mode_of token.bytes))
 read_arg forms.Kept token = or_other (option_map args.Kept (sort_of token.bytes))
 

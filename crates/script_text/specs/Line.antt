@@ -1,5 +1,5 @@
 -- What a line means: a command, nothing, or the reason why it is refused.
-use Rattle.std.specs.Prelude.{◌≡◌, ℕ, ◌+◌, Bool, true, nat_eq, nat_lt, if◌then◌else◌, List, [], ◌∷◌, length, take, codes, Option, Some, None, Result, Ok, Err, ⊤}
+use Rattle.std.specs.Prelude.{◌≡◌, ℕ, ◌+◌, true, nat_eq, nat_lt, if◌then◌else◌, List, [], ◌∷◌, length, take, codes, Option, Some, None, Result, Ok, Err, ⊤}
 use Rattle.std.specs.List.{starts_with}
 use Rattle.script_text.specs.declared.argument.Arg.{Arg}
 use Rattle.script_text.specs.declared.argument.Misfit.{Misfit}
@@ -18,21 +18,26 @@ use Rattle.script_text.specs.Token.{Token, next_of, tokens_of, behind}
 unfoldable pub line_limit : ℕ
 line_limit = 65536
 
--- An argument in front of the later ones, or the fault: the leftmost token that isn't of its form, and where each is of
--- its form, the leftmost number out of range.
-abbrev pub with_later : ℕ → Result Arg Misfit → Result (List Arg) LineRefusal → Result (List Arg) LineRefusal
+-- the arguments of a line, or the fault among them
+abbrev pub Args : Type 0
+Args = Result (List Arg) LineRefusal
+
+-- An argument in front of the later ones, or the fault: the leftmost token that isn't of its form,
+-- and where each is of its form, the leftmost number out of range.
+abbrev pub with_later : ℕ → Result Arg Misfit → Args → Args
 with_later column (Err OtherForm) later = Err (Syntax column)
 with_later column (Err OutOfRange) (Err (Syntax further)) = Err (Syntax further)
 with_later column (Err OutOfRange) later = Err (Number column)
 with_later column (Ok arg) (Ok later) = Ok (arg ∷ later)
 with_later column (Ok arg) (Err fault) = Err fault
 
--- The arguments of these forms that the tokens are, of which none may be left. An argument that is missing is missed in
--- the column behind the last token.
-abbrev pub arguments : List Form → ℕ → List Token → Result (List Arg) LineRefusal
+-- The arguments of these forms that the tokens are, of which none may be left. An argument that is
+-- missing is missed in the column behind the last token.
+abbrev pub arguments : List Form → ℕ → List Token → Args
 arguments [] missing [] = Ok []
 arguments [] missing (token ∷ tokens) = Err (Syntax token.column)
-arguments (form ∷ forms) missing [] = with_later missing (left_out form) (arguments forms missing [])
+arguments (form ∷ forms) missing [] =
+    with_later missing (left_out form) (arguments forms missing [])
 arguments (form ∷ forms) missing (token ∷ tokens) =
     with_later token.column (read_arg form token)
     (arguments forms (behind token) (if takes_rest form then [] else tokens))
@@ -42,31 +47,37 @@ pub record Reading : Type 0 where
   pub row : Entry
   pub args : List Arg
 
+-- what is read of a line: nothing, a row with its arguments, or a fault
+abbrev pub Read : Type 0
+Read = Result (Option Reading) LineRefusal
+
 -- the row and its arguments
-abbrev pub reading_of : Entry → Result (List Arg) LineRefusal → Result (Option Reading) LineRefusal
+abbrev pub reading_of : Entry → Args → Read
 reading_of row (Ok args) = Ok (Some (record { row = row; args = args }))
 reading_of row (Err fault) = Err fault
 
 -- what a line says whose first token chooses the row, or none
-abbrev pub read_row : Option Entry → Token → List Token → Result (Option Reading) LineRefusal
+abbrev pub read_row : Option Entry → Token → List Token → Read
 read_row None first tokens = Err (Syntax first.column)
 read_row (Some row) first tokens = reading_of row (arguments row.forms (behind first) tokens)
 
 -- what the tokens of a line say: nothing where there is none or where the first one begins with `#`
-abbrev pub read_tokens : List Entry → List Token → Result (Option Reading) LineRefusal
+abbrev pub read_tokens : List Entry → List Token → Read
 read_tokens rows [] = Ok None
 read_tokens rows (first ∷ tokens) =
     if starts_with nat_eq first.bytes (codes "#") then Ok None
     else read_row (entry_of rows first.bytes (next_of tokens)) first tokens
 
 -- what a line says by a table
-unfoldable pub read_line : List Entry → List ℕ → Result (Option Reading) LineRefusal
-read_line rows line = if nat_lt line_limit (length line) then Err LongLine else read_tokens rows (tokens_of line)
+unfoldable pub read_line : List Entry → List ℕ → Read
+read_line rows line =
+    if nat_lt line_limit (length line) then Err LongLine else read_tokens rows (tokens_of line)
 
 -- the command of a row and its arguments
-abbrev pub meaning_of : Result (Option Reading) LineRefusal → Result Line LineRefusal
+abbrev pub meaning_of : Read → Result Line LineRefusal
 meaning_of (Ok None) = Ok Nothing
-meaning_of (Ok (Some reading)) = Ok (Command (record { word = reading.row.word; args = reading.args }))
+meaning_of (Ok (Some reading)) =
+    Ok (Command (record { word = reading.row.word; args = reading.args }))
 meaning_of (Err fault) = Err fault
 
 -- what a line means
@@ -79,8 +90,8 @@ pub record KeepsBytes (meaning : Result Line LineRefusal) : Type 0 where
   pub is : meaning ≡ Ok (Command said)
   pub keeps : keeps_any (forms_of said.word) ≡ true
 
--- What is answered to a line of this meaning: the meaning itself, or want of memory in the place of a command whose
--- arguments keep bytes. Want of memory never stands in the place of a fault.
+-- What is answered to a line of this meaning: the meaning itself, or want of memory in the place of
+-- a command whose arguments keep bytes. Want of memory never stands in the place of a fault.
 abbrev pub Reads : Result Line LineRefusal → Result Line LineRefusal → Type 0
 Reads meaning (Ok line) = meaning ≡ Ok line
 Reads meaning (Err LongLine) = meaning ≡ Err LongLine

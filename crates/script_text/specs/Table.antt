@@ -1,5 +1,5 @@
 -- The table of commands.
-use Rattle.std.specs.Prelude.{◌≡◌, ℕ, Bool, true, false, ◌&&◌, ◌||◌, not, List, [], ◌∷◌, map, find, bytes_eq, Option, Some, None, Result, Ok, Err}
+use Rattle.std.specs.Prelude.{ℕ, Bool, true, false, ◌&&◌, ◌||◌, List, [], ◌∷◌, map, find, bytes_eq, Option, Some, None, Result, Ok, Err}
 use Rattle.std.specs.List.{list_any}
 use Rattle.std.specs.Option.{option_or, option_map_or}
 use Rattle.script_text.specs.contracts.word.WordPartialEq.TheImpl as words
@@ -15,16 +15,18 @@ use Rattle.script_text.specs.Form.{read_arg, keeps_bytes, FitsForms}
 use Rattle.script_text.specs.Said.{Said}
 use Rattle.script_text.specs.Token.{Token}
 
--- a command's row: how its word is spelled, the word, the forms of its arguments in order, and whether it takes memory
+-- a command's row: how its word is spelled, the word, the forms of its arguments in order, and
+-- whether it takes memory
 pub record Entry : Type 0 where
   pub spelling : List ℕ
   pub word : Word
   pub forms : List Form
   pub memory : Memory
 
--- the table, as the code states it
+-- the table, which is the constant of the code
 abbrev pub table : List Entry
-table = map (λ entry. record { spelling = entry.0.now; word = entry.1; forms = entry.2.now; memory = entry.3 }) TABLE
+table = map (λ row. record { spelling = row.0.now; word = row.1; forms = row.2.now; memory = row.3 })
+    TABLE
 
 -- the token isn't of another form
 abbrev pub is_read : Result Arg Misfit → Bool
@@ -38,14 +40,14 @@ may_begin [] next = true
 may_begin (form ∷ forms) None = true
 may_begin (form ∷ forms) (Some token) = is_read (read_arg form token)
 
--- The row that a line's first two tokens choose: of the rows of this spelling the first one whose arguments may begin with
--- the second token, or else the first one.
+-- The row that a line's first two tokens choose: of the rows of this spelling the first one whose
+-- arguments may begin with the second token, or else the first one.
 abbrev pub entry_of : List Entry → List ℕ → Option Token → Option Entry
 entry_of rows spelling next =
     option_or (find (λ entry. bytes_eq entry.spelling spelling && may_begin entry.forms next) rows)
     (find (λ entry. bytes_eq entry.spelling spelling) rows)
 
--- the row of a word
+-- the row of a word; words are compared by their `==`
 abbrev pub entry_with : Word → Option Entry
 entry_with word = find (λ entry. (words.ghosts).eq entry.word word) table
 
@@ -53,7 +55,7 @@ entry_with word = find (λ entry. (words.ghosts).eq entry.word word) table
 abbrev pub forms_of : Word → List Form
 forms_of word = option_map_or (λ entry. entry.forms) (entry_with word) []
 
--- reading the arguments of a row may take memory
+-- an argument of these forms keeps bytes, so that reading them may take memory
 abbrev pub keeps_any : List Form → Bool
 keeps_any forms = list_any keeps_bytes forms
 
@@ -69,9 +71,13 @@ is_by_reply NotTaken = false
 is_by_reply Taken = false
 is_by_reply TakenByReply = true
 
--- a line with the word may be answered by want of memory, when its arguments are read or when it runs
+-- a line of the row may be answered by want of memory, when its arguments are read or when it runs
+abbrev pub may_lack : Entry → Bool
+may_lack entry = keeps_any entry.forms || is_taken entry.memory
+
+-- the same of a word
 abbrev pub may_lack_memory : Word → Bool
-may_lack_memory word = option_map_or (λ entry. keeps_any entry.forms || is_taken entry.memory) (entry_with word) false
+may_lack_memory word = option_map_or may_lack (entry_with word) false
 
 -- the reply to a command with the word may be of any length
 abbrev pub may_reply_long : Word → Bool

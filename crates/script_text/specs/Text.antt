@@ -12,7 +12,8 @@ use Rattle.script_text.specs.declared.text.TheConstants.{MODES, SORTS}
 abbrev pub is_item_number : List ℕ → Bool
 is_item_number digits =
     (nat_le 1 (length digits) && nat_le (length digits) 10)
-    && (not (slice_index digits 0 == 48) && (list_all is_ascii_digit digits && nat_lt (digits_value 10 digits) (2 ^ 32)))
+    && (not (slice_index digits 0 == 48)
+    && (list_all is_ascii_digit digits && nat_lt (digits_value 10 digits) (2 ^ 32)))
 
 -- the number that such digits write
 abbrev pub number_of : List ℕ → Option ℕ
@@ -25,33 +26,37 @@ item_number letter (b ∷ digits) = if b == letter then number_of digits else No
 
 -- the name of an item: the letter of its sort, and then its number as a reply prints it
 abbrev pub IsItemName : ℕ → ℕ → List ℕ → Type 0
-IsItemName letter number bytes = (0 < number) × (number < 2 ^ 32) × (bytes ≡ letter ∷ decimal number)
+IsItemName letter number bytes =
+    (0 < number) × (number < 2 ^ 32) × (bytes ≡ letter ∷ decimal number)
 
--- the number of a node's name
+-- the number of a node's name, `n` and digits
 abbrev pub node_number : List ℕ → Option ℕ
 node_number = item_number 110
 
--- the number of an edge's name
+-- the number of an edge's name, `e` and digits
 abbrev pub edge_number : List ℕ → Option ℕ
 edge_number = item_number 101
 
--- the number of a cell's name
+-- the number of a cell's name, `i` and digits
 abbrev pub cell_number : List ℕ → Option ℕ
 cell_number = item_number 105
 
 -- the name of an item of some sort
 abbrev pub is_item : List ℕ → Bool
-is_item bytes = is_some (node_number bytes) || (is_some (edge_number bytes) || is_some (cell_number bytes))
+is_item bytes =
+    is_some (node_number bytes) || (is_some (edge_number bytes) || is_some (cell_number bytes))
 
 -- a letter, a digit or `_`
 abbrev pub is_name_byte : ℕ → Bool
 is_name_byte b = is_ascii_alphanumeric b || b == 95
 
--- the name of an object: 1 to 32 letters, digits or `_`, the first no digit, and not the name of an item
+-- the name of an object: 1 to 32 letters, digits or `_`, the first no digit, and not the name of an
+-- item
 abbrev pub is_name : List ℕ → Bool
 is_name bytes =
     (nat_le 1 (length bytes) && nat_le (length bytes) 32)
-    && (list_all is_name_byte bytes && (not (is_ascii_digit (slice_index bytes 0)) && not (is_item bytes)))
+    && (list_all is_name_byte bytes
+    && (not (is_ascii_digit (slice_index bytes 0)) && not (is_item bytes)))
 
 -- a label: at most 60,000 bytes, none of which ends a line
 abbrev pub is_label : List ℕ → Bool
@@ -64,12 +69,14 @@ between bytes = take (length bytes - 4) (drop 2 bytes)
 -- the label that bytes from `|{` to `}|` write
 abbrev pub label_of : List ℕ → Option (List ℕ)
 label_of bytes =
-    if starts_with nat_eq bytes (codes "|{") && (ends_with nat_eq (drop 2 bytes) (codes "}|") && is_label (between bytes))
+    if starts_with nat_eq bytes (codes "|{")
+    && (ends_with nat_eq (drop 2 bytes) (codes "}|") && is_label (between bytes))
     then Some (between bytes) else None
 
 -- the name of a file: 1 to 255 bytes from `!` to `~`
 abbrev pub is_file : List ℕ → Bool
-is_file bytes = (nat_le 1 (length bytes) && nat_le (length bytes) 255) && list_all is_ascii_graphic bytes
+is_file bytes =
+    (nat_le 1 (length bytes) && nat_le (length bytes) 255) && list_all is_ascii_graphic bytes
 
 -- an integer from -2^63 to 2^63 - 1
 abbrev pub is_i64 : ℤ → Bool

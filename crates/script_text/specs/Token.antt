@@ -11,15 +11,16 @@ abbrev pub trimmed : List ℕ → List ℕ
 trimmed [] = []
 trimmed (b ∷ bs) = if is_blank b && length (trimmed bs) == 0 then [] else b ∷ trimmed bs
 
--- a token: a longest run of bytes that aren't blanks; with the column of its first byte, and all that stands from there
--- on in the line without the blanks at its end
+-- a token: a longest run of bytes that aren't blanks; with the column of its first byte, and all
+-- that stands from there on in the line without the blanks at its end
 pub record Token : Type 0 where
   pub column : ℕ
   pub bytes : List ℕ
   pub tail : List ℕ
 
--- The tokens that begin in these bytes, the first of which stands in the column. A token begins at each byte that is
--- no blank, unless the byte before it belongs to a token already, and it reaches up to the next blank.
+-- The tokens that begin in these bytes, the first of which stands in the column. A token begins at
+-- each byte that is no blank, unless the byte before it belongs to a token already, and it reaches
+-- up to the next blank.
 abbrev pub tokens_after : Bool → ℕ → List ℕ → List Token
 tokens_after in_token column [] = []
 tokens_after in_token column (b ∷ bs) =

@@ -27,11 +27,13 @@ pub enum LineRefusal {
     /// The line has more than [`LINE_LIMIT`] bytes, whatever it holds.
     #[error("the line is too long")]
     LongLine,
-    /// The column of the first token that isn't of the wanted form: an unknown word, an argument of another form, or a
-    /// token too many. Where an argument is missing, the column behind the last token.
+    /// The column of the first token that isn't of the wanted form: an unknown word, an argument of
+    /// another form, or a token too many. Where an argument is missing, the column behind the last
+    /// token.
     #[error("syntax fault in column {0}")]
     Syntax(u32),
-    /// The column of the first number outside the range of 64 bits, in a line without a syntax fault.
+    /// The column of the first number outside the range of 64 bits, in a line without a syntax
+    /// fault.
     #[error("number out of range in column {0}")]
     Number(u32),
     /// There is no memory for the arguments of a command.
@@ -49,8 +51,8 @@ impl From<NoMemory> for LineRefusal {
 
 /// Reads a line, which is given without its LF.
 ///
-/// The answer is what the line means, but for a command that finds no memory for the bytes of its arguments: that is
-/// [`LineRefusal::NoMemory`], which never hides another refusal.
+/// The answer is what the line means, but for a command that finds no memory for the bytes of its
+/// arguments: that is [`LineRefusal::NoMemory`], which never hides another refusal.
 pub fn parse_line(alloc: Global, line: &[u8]) -> Result<Line, LineRefusal>
     ensures reads { Reads (line_of line.now) result }
     ensures whole { IfOk result IsWholeLine }

@@ -45,7 +45,8 @@ impl Reading<'_> {
     /// `NoMemory`, only where some argument has bytes.
     pub(crate) fn own(self, alloc: Global) -> Result<Command, NoMemory>
         requires { IsEntry self.row }
-        ensures ok { IfOk result (λ command. (command.word ≡ self.entry.row.word) × (command.args ≡ self.entry.args)) }
+        ensures ok { IfOk result (λ command. (command.word ≡ self.entry.row.word)
+            × (command.args ≡ self.entry.args)) }
         ensures err { OnErr result (list_any has_bytes self.entry.args ≡ true) }
     {
         let (_, word, forms, _) = self.row;
@@ -101,9 +102,9 @@ fn read_args<'a>(
 ) -> Result<ArgRefs<'a>, LineRefusal>
     requires { length forms.now ≤ 8 }
     ensures few { IfOk result (λ args. length args.items ≤ 8) }
-    ensures read { MatchResult result
-        (λ args. arguments forms.now tokens.old.column tokens.old.tokens ≡ Ok (map arg_seen args.items))
-        (λ fault. arguments forms.now tokens.old.column tokens.old.tokens ≡ Err fault) }
+    ensures read { let read = arguments forms.now tokens.old.column tokens.old.tokens in
+        MatchResult result
+        (λ args. read ≡ Ok (map arg_seen args.items)) (λ fault. read ≡ Err fault) }
 {
     let mut args = SmallVec::new(alloc);
     let mut out_of_range = None;
@@ -124,7 +125,8 @@ fn read_args<'a>(
     }
 }
 
-/// Reads the next token as an argument of this form. The column is that of the token, or the one in which it is missed.
+/// Reads the next token as an argument of this form. The column is that of the token, or the one in
+/// which it is missed.
 fn next_arg<'a>(form: Form, tokens: &mut Tokens<'a>) -> (u32, Result<ArgRef<'a>, Misfit>)
     ensures { ReadsNext form tokens.old result.0 (read_seen result.1) tokens.new }
 {

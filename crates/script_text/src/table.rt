@@ -1,4 +1,4 @@
-//! The table of commands: how each is spelled, its word, the forms of its arguments, and whether it takes memory.
+//! The table of commands: how each is spelled, its word, what it asks of its arguments, its memory.
 ghost use Rattle.std.specs.Prelude.{◌≡◌, ◌&&◌, bytes_eq, find, map, option_map};
 ghost use Rattle.script_text.specs.Borrowed.{entry_seen, token_seen};
 ghost use Rattle.script_text.specs.Table.{table, entry_of as the_entry, may_begin};
@@ -20,12 +20,13 @@ pub enum Memory {
 
 /// A row of the table: the spelling, the word, the forms of the arguments in order, and the memory.
 ///
-/// A tuple, since clauses can cite no constant of a struct with references.
+/// A tuple, since a clause can't cite a constant of a struct with references.
 pub(crate) type Entry = (&'static str, Word, &'static [Form], Memory);
 
 const NODE: Form = Form::Node(Sight::Visible);
 
-/// Writes the rows of a table, one a line: the spelling, the word, what is asked of each argument, and the memory.
+/// Writes the rows of a table, one a line: the spelling, the word, what is asked of each argument,
+/// and the memory.
 macro_rules! rows {
     ($($spelling:literal $kind:ident($word:expr) [$($form:expr),*] $memory:ident;)*) => {
         [$(($spelling, Word::$kind($word), &[$($form),*], Memory::$memory)),*]

@@ -7,7 +7,8 @@ ghost use Rattle.script_text.specs.Token.{is_blank as blank, trimmed as without_
 use crate::line::LINE_LIMIT;
 use std::marker::Model;
 
-/// A token, with the column of its first byte, and the rest of its line from there on without the blanks at the end.
+/// A token, with the column of its first byte, and all that stands from there on in its line,
+/// without the blanks at the end.
 #[derive(Clone, Copy)]
 pub(crate) struct Token<'a> {
     pub column: u32,
@@ -57,8 +58,8 @@ impl<'a> Tokens<'a> {
     pub fn peek(&self) -> Option<Token<'a>>
         ensures first { option_map token_seen result ≡ next_of self.now.tokens }
         ensures rest { MatchOption result (self.now.tokens ≡ [])
-            (λ token. self.now.tokens ≡ token_seen token
-            ∷ tokens_from (token.column + length token.bytes.now) (drop (length token.bytes.now) token.tail.now)) }
+            (λ token. let len = length token.bytes.now in self.now.tokens
+            ≡ token_seen token ∷ tokens_from (token.column + len) (drop len token.tail.now)) }
         ensures within { IfSome result (λ token. (length token.bytes.now ≤ length token.tail.now)
             × (token.column + length token.tail.now ≤ 65537)) }
     {

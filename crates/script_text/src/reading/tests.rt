@@ -13,6 +13,8 @@ const EDGE: Form = Form::Edge(Sight::Visible);
 
 const ELEMENT: Form = Form::Element(Sight::Live);
 
+const ARRAY: Form = Form::Object(Kinds::EdgeValues);
+
 /// A row for each form, and rows in which forms meet. One spelling has two rows.
 const ROWS: [Entry; 18] = rows! {
     "count"       Query(QueryWord::Reach)  []                                        NotTaken;
@@ -32,7 +34,7 @@ const ROWS: [Entry; 18] = rows! {
     "mode"        Query(QueryWord::Reach)  [Form::Mode]                              NotTaken;
     "check"       Query(QueryWord::Reach)  [Form::Kept]                              TakenByReply;
     "assign"      Query(QueryWord::Reach)  [Form::Cell(Kinds::List), Form::Num]      NotTaken;
-    "assign"      Query(QueryWord::Reach)  [Form::Object(Kinds::EdgeValues), Form::Mode]  TakenByReply;
+    "assign"      Query(QueryWord::Reach)  [ARRAY, Form::Mode]                       TakenByReply;
 };
 
 #[test]

@@ -1,4 +1,4 @@
-use Rattle.script_text.proofs.Whole.{IsReading, reading_is, fault_reads, lack_reads, whole_is}
+use Rattle.script_text.proofs.Whole.{reading_is, fault_reads, lack_reads, whole_is}
 use Rattle.script_text.proofs.line.parse_line.Goals as goal
 
 pub returns-in_err-reading-clause-reads : goal.returns-in_err-reading-clause-reads
@@ -13,7 +13,8 @@ own-requires c =
 
 pub returns-in_err-own-in-Some-clause-reads : goal.returns-in_err-own-in-Some-clause-reads
 returns-in_err-own-in-Some-clause-reads c =
-    lack_reads _ c.args.line.now c.in_ok-reading.field-0 c.in-Some.reading c.from_residual-in_err-own-in-Some.result
+    lack_reads _ c.args.line.now c.in_ok-reading.field-0 c.in-Some.reading
+    c.from_residual-in_err-own-in-Some.result
     c.table.ensures c.in_ok-reading.ensures c.in-Some.is c.in_err-own-in-Some.ensures.err
     c.from_residual-in_err-own-in-Some.ensures.1
 

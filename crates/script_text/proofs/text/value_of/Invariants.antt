@@ -3,4 +3,5 @@ use Rattle.std.specs.Str.Parse.{digits_value}
 use Rattle.script_text.proofs.text.value_of.Given as goal
 
 abbrev pub invariant-loop-digit : goal.invariant-loop-digit
-invariant-loop-digit l = (l.value ≡ digits_value 10 (take l.digit-index l.digits)) × (l.value < 10 ^ l.digit-index)
+invariant-loop-digit l = (l.value ≡ digits_value 10 (take l.digit-index l.digits)) ×
+    (l.value < 10 ^ l.digit-index)
