@@ -8,7 +8,7 @@ use Rattle.item_ring.specs.declared.block.State.TheVariants.{Free, Loose, Linked
 use Rattle.item_ring.specs.Nodes.{Slots, cell_at, next_of, prev_of, ring_of, value_of, state_of, Edits, Spliced, Unspliced}
 use Rattle.item_ring.specs.RingLists.{IsIn, list_in, without}
 use Rattle.item_ring.specs.AreRings.{IsPath, IsRing, AreRings, IsChain, IsFree, IsStocked}
-use Rattle.item_ring.specs.Seen.{View}
+use Rattle.item_ring.specs.View.{View}
 use Rattle.item_ring.specs.Turns.{linked_as, unlinked}
 use Rattle.item_ring.proofs.Apart.{head_free, linked_free, loose_free, head_state, head_used, loose_used, linked_used, Belongs}
 use Rattle.item_ring.proofs.Counts.{few}

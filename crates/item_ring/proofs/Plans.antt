@@ -3,12 +3,13 @@ use Rattle.std.proofs.Common.{◌≡◌, ℕ, ◌+◌, ◌<◌, arith, length, t
 use Rattle.std.specs.FinMap as map
 use Rattle.item_ring.specs.declared.block.State.TheVariants.{Linked}
 use Rattle.item_ring.specs.declared.rings.Rings.TheInside.{Inside}
-use Rattle.item_ring.specs.declared.seen.Seen.{Seen}
+use Rattle.leda_base.specs.declared.Seen.{Seen}
 use Rattle.item_ring.specs.Nodes.{Slots, cell_at, prev_of, ring_of, value_of, state_of, Edits, Spliced, Unspliced}
 use Rattle.item_ring.specs.RingLists.{IsIn, IsDistinct, IsLinked, IsLinkedIn, AreApart, list_in, with_after, with_before}
 use Rattle.item_ring.specs.AreRings.{is_head}
 use Rattle.item_ring.specs.RingsHold.{RingsHold, lists_of}
 use Rattle.item_ring.specs.Turns.{linked_as, unlinked}
+use Rattle.item_ring.specs.View.{View}
 use Rattle.item_ring.proofs.Apart.{linked_at, linked_used, apart_all}
 use Rattle.item_ring.proofs.Holds.{IsReady, ready, ring_is, last_is, prev_is, links_rings, links_free, links_stock, out_rings, out_free, out_stock}
 use Rattle.item_ring.proofs.Lists.{last_of, last_push, IsCutAt, cut_at, append_none, appended, length_put, after_cut, before_cut}
@@ -96,7 +97,7 @@ module _ (a : Inside) (inv : RingsHold a) where
           omega (arith, r.counted, long, cut_long)
 
       pub out_holds : (u w : Slots) (count : ℕ) (un : Unspliced a.nodes u at) (len : w.len ≡ u.len) (ed : Edits u w h (record (cell_at u h) { value = count })) (counted : count + 1 ≡ value_of a.nodes h)
-          (seen : Seen) (turned : seen.view ≡ unlinked a.seen.view h at) → RingsHold (record a { nodes = w; seen = seen })
+          (seen : Seen View) (turned : seen.view ≡ unlinked a.seen.view h at) → RingsHold (record a { nodes = w; seen = seen })
       out_holds u w count un len ed counted seen turned = record {
         rings = out_rings a.nodes a.seen.view a.first_free a.free a.spare_heads a.spare_members inv.rings inv.free inv.stock h out_key at out_cut.before out_cut.behind out_cut.is u w count un len ed counted seen.view turned;
         free = out_free a.nodes a.seen.view a.first_free a.free a.spare_heads a.spare_members inv.rings inv.free inv.stock h out_key at out_cut.before out_cut.behind out_cut.is u w count un len ed counted seen.view turned;
@@ -108,7 +109,7 @@ module _ (a : Inside) (inv : RingsHold a) where
     plan_ready = ready a.nodes a.seen.view a.first_free a.free a.spare_heads a.spare_members inv.rings inv.free inv.stock h p.key m p.loose here p.fore p.aft p.split p.at
 
     pub plan_holds : (u w : Slots) (count : ℕ) (sp : Spliced a.nodes u here m h) (len : w.len ≡ u.len) (ed : Edits u w h (record (cell_at u h) { value = count })) (counted : count ≡ value_of a.nodes h + 1)
-        (seen : Seen) (turned : seen.view ≡ linked_as a.seen.view h m xs) → RingsHold (record a { nodes = w; seen = seen })
+        (seen : Seen View) (turned : seen.view ≡ linked_as a.seen.view h m xs) → RingsHold (record a { nodes = w; seen = seen })
     plan_holds u w count sp len ed counted seen turned = record {
       rings = links_rings a.nodes a.seen.view a.first_free a.free a.spare_heads a.spare_members inv.rings inv.free inv.stock h p.key m p.loose here p.fore p.aft p.split p.at u w count sp len ed counted xs p.is seen.view turned;
       free = links_free a.nodes a.seen.view a.first_free a.free a.spare_heads a.spare_members inv.rings inv.free inv.stock h p.key m p.loose here p.fore p.aft p.split p.at u w count sp len ed counted xs p.is seen.view turned;

@@ -3,7 +3,7 @@ use Rattle.std.specs.Prelude.{ℕ, List, [], ◌∷◌, ◌++◌}
 use Rattle.std.specs.FinMap as map
 use Rattle.item_ring.specs.RingLists.{list_in, without, with_after, with_before}
 use Rattle.item_ring.specs.AreRings.{tail}
-use Rattle.item_ring.specs.Seen.{View}
+use Rattle.item_ring.specs.View.{View}
 
 abbrev pub linked_as : View → ℕ → ℕ → List ℕ → View
 linked_as s h m xs = record s { rings = map.insert s.rings h xs; loose = without m s.loose }

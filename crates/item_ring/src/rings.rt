@@ -7,7 +7,8 @@ ghost use Rattle.item_ring.specs.Nodes.{cell_at};
 
 use crate::block::State;
 use crate::nodes::Nodes;
-use crate::seen::Seen;
+use crate::seen::{RingView, show};
+use leda_base::Seen;
 use std::alloc::{AllocError, Global};
 use std::marker::Model;
 
@@ -60,7 +61,7 @@ pub struct Rings {
     free: u32,
     spare_heads: u32,
     spare_members: u32,
-    seen: Seen,
+    seen: Seen<RingView>,
     alloc: Global,
 }
 
@@ -128,7 +129,7 @@ impl Rings {
         let count = self.nodes.get(h.slot).value;
         self.nodes.splice(last, m.slot, h.slot);
         self.nodes.set_value(h.slot, count + 1);
-        self.seen.becomes(h.slot, m.slot, m.slot);
+        show(&mut self.seen, h.slot, m.slot, m.slot);
     }
 
     /// Puts the loose member before all others of the ring.
@@ -144,7 +145,7 @@ impl Rings {
         let count = self.nodes.get(h.slot).value;
         self.nodes.splice(h.slot, m.slot, h.slot);
         self.nodes.set_value(h.slot, count + 1);
-        self.seen.becomes(h.slot, m.slot, m.slot);
+        show(&mut self.seen, h.slot, m.slot, m.slot);
     }
 
     /// Puts the loose member right after `at`, which is linked.
@@ -161,7 +162,7 @@ impl Rings {
         let count = self.nodes.get(head).value;
         self.nodes.splice(at.slot, m.slot, head);
         self.nodes.set_value(head, count + 1);
-        self.seen.becomes(head, m.slot, at.slot);
+        show(&mut self.seen, head, m.slot, at.slot);
     }
 
     /// Puts the loose member right before `at`, which is linked.
@@ -179,7 +180,7 @@ impl Rings {
         let count = self.nodes.get(head).value;
         self.nodes.splice(before, m.slot, head);
         self.nodes.set_value(head, count + 1);
-        self.seen.becomes(head, m.slot, at.slot);
+        show(&mut self.seen, head, m.slot, at.slot);
     }
 
     /// Takes the member out of its ring. It is loose from here on.
@@ -195,7 +196,7 @@ impl Rings {
         let count = self.nodes.get(head).value;
         self.nodes.unsplice(m.slot);
         self.nodes.set_value(head, count - 1);
-        self.seen.becomes(head, m.slot, m.slot);
+        show(&mut self.seen, head, m.slot, m.slot);
     }
 
     /// The first member of the ring, and none exactly where it is empty.
@@ -292,7 +293,7 @@ impl Rings {
             0,
             State::Head,
         );
-        self.seen.becomes(slot, slot, 0);
+        show(&mut self.seen, slot, slot, 0);
         Ok(Head { slot })
     }
 
@@ -318,7 +319,7 @@ impl Rings {
             tag,
             State::Loose,
         );
-        self.seen.becomes(slot, slot, tag);
+        show(&mut self.seen, slot, slot, tag);
         Ok(Member { slot })
     }
 
@@ -336,7 +337,7 @@ impl Rings {
         self.first_free = m.slot;
         self.free += 1;
         self.spare_members += 1;
-        self.seen.becomes(m.slot, m.slot, 0);
+        show(&mut self.seen, m.slot, m.slot, 0);
     }
 
     /// Ends the head of an empty ring. Its place is spare from here on.
@@ -353,7 +354,7 @@ impl Rings {
         self.first_free = h.slot;
         self.free += 1;
         self.spare_heads += 1;
-        self.seen.becomes(h.slot, h.slot, 0);
+        show(&mut self.seen, h.slot, h.slot, 0);
     }
 
     /// Whether the member is linked into a ring. Else it is loose.
@@ -416,7 +417,7 @@ fn claim(
     nodes: &mut Nodes,
     first_free: &mut u32,
     free: &mut u32,
-    seen: &Seen,
+    seen: &Seen<RingView>,
     value: u32,
     state: State,
 ) -> u32

@@ -94,7 +94,7 @@ invariant_of-self c =
     let h = c.get-head.result.ring in
     let loose : IsIn c.m.inside.slot a.seen.view.loose = subst (λ k. IsIn k a.seen.view.loose) (sym c.m.view_is) (subst (λ x. IsLoose x c.args.m) (sym c.self.view_is) c.requires.member) in
     let plan = plan_before a c.self.invariant c.at.inside.slot linked h c.m.inside.slot c.get-before.result.prev home loose (ap (λ (x : Cell). x.prev) c.get-before.ensures) in
-    plan_holds a c.self.invariant h c.m.inside.slot c.get-before.result.prev _ plan c.splice.new.self c.set_value.new.self _ c.splice.ensures c.set_value.ensures.len c.set_value.ensures.cell (ap (λ (x : Cell). x.value + 1) c.get-count.ensures) c.becomes.new.self c.becomes.ensures
+    plan_holds a c.self.invariant h c.m.inside.slot c.get-before.result.prev _ plan c.splice.new.self c.set_value.new.self _ c.splice.ensures c.set_value.ensures.len c.set_value.ensures.cell (ap (λ (x : Cell). x.value + 1) c.get-count.ensures) c.show.new.seen c.show.ensures
 
 pub returns-clause-apart : goal.returns-clause-apart
 returns-clause-apart c =
@@ -104,7 +104,7 @@ returns-clause-apart c =
     let h = c.get-head.result.ring in
     let loose : IsIn c.m.inside.slot a.seen.view.loose = subst (λ k. IsIn k a.seen.view.loose) (sym c.m.view_is) (subst (λ x. IsLoose x c.args.m) (sym c.self.view_is) c.requires.member) in
     let plan = plan_before a c.self.invariant c.at.inside.slot linked h c.m.inside.slot c.get-before.result.prev home loose (ap (λ (x : Cell). x.prev) c.get-before.ensures) in
-    apart_now _ (plan_holds a c.self.invariant h c.m.inside.slot c.get-before.result.prev _ plan c.splice.new.self c.set_value.new.self _ c.splice.ensures c.set_value.ensures.len c.set_value.ensures.cell (ap (λ (x : Cell). x.value + 1) c.get-count.ensures) c.becomes.new.self c.becomes.ensures)
+    apart_now _ (plan_holds a c.self.invariant h c.m.inside.slot c.get-before.result.prev _ plan c.splice.new.self c.set_value.new.self _ c.splice.ensures c.set_value.ensures.len c.set_value.ensures.cell (ap (λ (x : Cell). x.value + 1) c.get-count.ensures) c.show.new.seen c.show.ensures)
 
 pub returns-clause-rings : goal.returns-clause-rings
 returns-clause-rings c = λ h l.
@@ -112,8 +112,8 @@ returns-clause-rings c = λ h l.
     let home = ap (λ (x : Cell). x.ring) c.get-head.ensures in
     let l' = subst (λ k. IsLinkedIn (lists_of a) h k) (sym c.at.view_is) (subst (λ x. IsLinkedIn x h c.args.at) (sym c.self.view_is) l) in
     let same = home ∙ home_is a c.self.invariant h c.at.inside.slot l' in
-    let is = ap (λ x. x.rings) c.becomes.ensures in
-    let at_h = subst (λ k. c.becomes.new.self.view.rings ≡ map.insert a.seen.view.rings k (with_before c.at.inside.slot c.m.inside.slot (list_in a.seen.view.rings k))) same is in
-    let at_at = subst (λ k. c.becomes.new.self.view.rings ≡ map.insert a.seen.view.rings h (with_before k c.m.inside.slot (list_in a.seen.view.rings h))) c.at.view_is at_h in
-    let at_m = subst (λ k. c.becomes.new.self.view.rings ≡ map.insert a.seen.view.rings h (with_before c.args.at k (list_in a.seen.view.rings h))) c.m.view_is at_at in
-    subst (λ x. c.becomes.new.self.view.rings ≡ map.insert x.rings h (with_before c.args.at c.args.m (ring x h))) c.self.view_is at_m
+    let is = ap (λ x. x.rings) c.show.ensures in
+    let at_h = subst (λ k. c.show.new.seen.view.rings ≡ map.insert a.seen.view.rings k (with_before c.at.inside.slot c.m.inside.slot (list_in a.seen.view.rings k))) same is in
+    let at_at = subst (λ k. c.show.new.seen.view.rings ≡ map.insert a.seen.view.rings h (with_before k c.m.inside.slot (list_in a.seen.view.rings h))) c.at.view_is at_h in
+    let at_m = subst (λ k. c.show.new.seen.view.rings ≡ map.insert a.seen.view.rings h (with_before c.args.at k (list_in a.seen.view.rings h))) c.m.view_is at_at in
+    subst (λ x. c.show.new.seen.view.rings ≡ map.insert x.rings h (with_before c.args.at c.args.m (ring x h))) c.self.view_is at_m

@@ -49,7 +49,7 @@ invariant_of-self c =
     let key : map.contains_key a.seen.view.rings h ≡ true = subst (λ k. map.contains_key a.seen.view.rings k ≡ true) (sym c.h.view_is) (subst (λ x. IsHead x c.args.h) (sym c.self.view_is) c.requires.head) in
     let loose : IsIn c.m.inside.slot a.seen.view.loose = subst (λ k. IsIn k a.seen.view.loose) (sym c.m.view_is) (subst (λ x. IsLoose x c.args.m) (sym c.self.view_is) c.requires.member) in
     let plan = plan_front a c.self.invariant h c.m.inside.slot c.h.inside.slot key loose refl in
-    plan_holds a c.self.invariant h c.m.inside.slot c.h.inside.slot _ plan c.splice.new.self c.set_value.new.self _ c.splice.ensures c.set_value.ensures.len c.set_value.ensures.cell (ap (λ (x : Cell). x.value + 1) c.get-count.ensures) c.becomes.new.self c.becomes.ensures
+    plan_holds a c.self.invariant h c.m.inside.slot c.h.inside.slot _ plan c.splice.new.self c.set_value.new.self _ c.splice.ensures c.set_value.ensures.len c.set_value.ensures.cell (ap (λ (x : Cell). x.value + 1) c.get-count.ensures) c.show.new.seen c.show.ensures
 
 pub returns-clause-apart : goal.returns-clause-apart
 returns-clause-apart c =
@@ -58,4 +58,4 @@ returns-clause-apart c =
     let key : map.contains_key a.seen.view.rings h ≡ true = subst (λ k. map.contains_key a.seen.view.rings k ≡ true) (sym c.h.view_is) (subst (λ x. IsHead x c.args.h) (sym c.self.view_is) c.requires.head) in
     let loose : IsIn c.m.inside.slot a.seen.view.loose = subst (λ k. IsIn k a.seen.view.loose) (sym c.m.view_is) (subst (λ x. IsLoose x c.args.m) (sym c.self.view_is) c.requires.member) in
     let plan = plan_front a c.self.invariant h c.m.inside.slot c.h.inside.slot key loose refl in
-    apart_now _ (plan_holds a c.self.invariant h c.m.inside.slot c.h.inside.slot _ plan c.splice.new.self c.set_value.new.self _ c.splice.ensures c.set_value.ensures.len c.set_value.ensures.cell (ap (λ (x : Cell). x.value + 1) c.get-count.ensures) c.becomes.new.self c.becomes.ensures)
+    apart_now _ (plan_holds a c.self.invariant h c.m.inside.slot c.h.inside.slot _ plan c.splice.new.self c.set_value.new.self _ c.splice.ensures c.set_value.ensures.len c.set_value.ensures.cell (ap (λ (x : Cell). x.value + 1) c.get-count.ensures) c.show.new.seen c.show.ensures)
