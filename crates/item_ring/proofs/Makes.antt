@@ -77,9 +77,6 @@ module _ (a : Inside) (inv : RingsHold a) (g : Slots) (gr : IsGrown a.nodes g) w
     };
   }
 
-  pub claim_room : (sh sm : ℕ) → sh + sm + g.len + 1 ≤ a.free + g.room → (IsFree g a.first_free a.free s.free × (g.len < a.free + g.room)) × ((g.len ≤ g.room) × (g.room ≤ 2 ^ 26))
-  claim_room sh sm fits = ((fr, omega arith), (st.within, st.small))
-
   module _ (w : Slots) (next after slot value : ℕ) (state : State) (cl : Claimed g w next a.free after s.free slot value state) where
     free_before : state_of g slot ≡ Free
     free_before = was_free g w s s a.first_free a.free a.free slot value state are fr next after cl

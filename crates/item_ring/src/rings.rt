@@ -1,9 +1,11 @@
 //! Heads and members: each head stands for a ring of members.
-ghost use Rattle.std.specs.Prelude.{◌≡◌, cond, ◌==◌, false, ◌⊎◌, ◌≤◌, true, ℕ, ◌<◌, ◌↔◌, ◌+◌, List, [], ◌∷◌, ◌++◌, Some, None, length, min, ◌^◌, ◌-◌, IsOk, IfOk, IfErr, OnErr};
+ghost use Rattle.std.specs.Prelude.{◌≡◌, cond, ◌==◌, false, ◌⊎◌, ◌≤◌, true, ℕ, ◌<◌, ◌↔◌, ◌+◌, List, [], ◌∷◌, ◌++◌, Some, None, length, min, ◌^◌, ◌-◌, IsOk, IfOk, IfErr, OnErr, unwrap_or};
+ghost use Rattle.std.specs.Option.{ForSome};
 ghost use Rattle.std.specs.FinMap as map;
 ghost use Rattle.item_ring.specs.RingLists.{IsIn, IsHead, IsLinked, IsLinkedIn, IsLoose, AreApart, StandsBetween, ring, front, back, unless_equal, without, with_after, with_before};
 ghost use Rattle.item_ring.specs.AreRings.{Claimed, IsFree};
 ghost use Rattle.item_ring.specs.Nodes.{cell_at};
+ghost use Rattle.item_ring.specs.Turns.{with_behind};
 
 use crate::block::State;
 use crate::nodes::Nodes;
@@ -125,11 +127,8 @@ impl Rings {
         ensures spare { (self.new.spare_heads ≡ self.old.spare_heads) × (self.new.spare_members ≡ self.old.spare_members) }
         ensures apart { AreApart self.new }
     {
-        let last = self.nodes.get(h.slot).prev;
-        let count = self.nodes.get(h.slot).value;
-        self.nodes.splice(last, m.slot, h.slot);
-        self.nodes.set_value(h.slot, count + 1);
-        show(&mut self.seen, h.slot, m.slot, m.slot);
+        let last = self.last(h);
+        self.tie(h, last, m);
     }
 
     /// Puts the loose member before all others of the ring.
@@ -142,10 +141,7 @@ impl Rings {
         ensures spare { (self.new.spare_heads ≡ self.old.spare_heads) × (self.new.spare_members ≡ self.old.spare_members) }
         ensures apart { AreApart self.new }
     {
-        let count = self.nodes.get(h.slot).value;
-        self.nodes.splice(h.slot, m.slot, h.slot);
-        self.nodes.set_value(h.slot, count + 1);
-        show(&mut self.seen, h.slot, m.slot, m.slot);
+        self.tie(h, None, m);
     }
 
     /// Puts the loose member right after `at`, which is linked.
@@ -158,11 +154,8 @@ impl Rings {
         ensures spare { (self.new.spare_heads ≡ self.old.spare_heads) × (self.new.spare_members ≡ self.old.spare_members) }
         ensures apart { AreApart self.new }
     {
-        let head = self.nodes.get(at.slot).ring;
-        let count = self.nodes.get(head).value;
-        self.nodes.splice(at.slot, m.slot, head);
-        self.nodes.set_value(head, count + 1);
-        show(&mut self.seen, head, m.slot, at.slot);
+        let h = self.head_of(at);
+        self.tie(h, Some(at), m);
     }
 
     /// Puts the loose member right before `at`, which is linked.
@@ -175,12 +168,28 @@ impl Rings {
         ensures spare { (self.new.spare_heads ≡ self.old.spare_heads) × (self.new.spare_members ≡ self.old.spare_members) }
         ensures apart { AreApart self.new }
     {
-        let head = self.nodes.get(at.slot).ring;
-        let before = self.nodes.get(at.slot).prev;
-        let count = self.nodes.get(head).value;
-        self.nodes.splice(before, m.slot, head);
-        self.nodes.set_value(head, count + 1);
-        show(&mut self.seen, head, m.slot, at.slot);
+        let h = self.head_of(at);
+        let before = self.prev(at);
+        self.tie(h, before, m);
+    }
+
+    /// Ties the loose member in right behind `behind`, and before all others where that is none.
+    fn tie(&mut self, h: Head, behind: Option<Member>, m: Member)
+        requires head { IsHead self.old h }
+        requires member { IsLoose self.old m }
+        requires behind { ForSome behind (λ at. IsIn at (ring self.old h)) }
+        ensures rings { self.new.rings ≡ map.insert self.old.rings h (with_behind behind m (ring self.old h)) }
+        ensures loose { self.new.loose ≡ without m self.old.loose }
+        ensures tags { self.new.tags ≡ self.old.tags }
+        ensures spare { (self.new.spare_heads ≡ self.old.spare_heads)
+            × (self.new.spare_members ≡ self.old.spare_members) }
+        ensures apart { AreApart self.new }
+    {
+        let here = slot_behind(h, behind);
+        let count = self.nodes.get(h.slot).value;
+        self.nodes.splice(here, m.slot, h.slot);
+        self.nodes.set_value(h.slot, count + 1);
+        show(&mut self.seen, h.slot, m.slot, here);
     }
 
     /// Takes the member out of its ring. It is loose from here on.
@@ -408,6 +417,16 @@ fn unless_head(slot: u32, head: u32) -> Option<Member>
         None
     } else {
         Some(Member { slot })
+    }
+}
+
+/// The slot of a member, or of the head where there is none.
+fn slot_behind(h: Head, behind: Option<Member>) -> u32
+    ensures { result ≡ unwrap_or behind h }
+{
+    match behind {
+        Some(at) => at.slot,
+        None => h.slot,
     }
 }
 
