@@ -1,6 +1,6 @@
 /* Runs a program with a file as its input and its output thrown away, and prints the seconds and KiB that it took.
    A small parent keeps the greatest memory that the system reports that of the program itself.
-   usage: measure FILE PROGRAM */
+   usage: measure FILE PROGRAM [WORD ..] */
 #include <fcntl.h>
 #include <stdio.h>
 #include <stdlib.h>
@@ -13,7 +13,7 @@ int main(int count, char **words) {
     struct timespec begin, end;
     struct rusage usage;
     int status;
-    if (count != 3) return 2;
+    if (count < 3) return 2;
     clock_gettime(CLOCK_MONOTONIC, &begin);
     pid_t child = fork();
     if (child == 0) {
@@ -21,7 +21,7 @@ int main(int count, char **words) {
         if (in < 0 || out < 0) _exit(126);
         dup2(in, 0);
         dup2(out, 1);
-        execl(words[2], words[2], (char *)NULL);
+        execv(words[2], words + 2);
         _exit(127);
     }
     if (child < 0 || wait4(child, &status, 0, &usage) != child || status != 0) return 1;

@@ -1,5 +1,5 @@
 -- A value comes in, or is turned away.
-use Rattle.std.proofs.Common.{◌≡◌, ℕ, ◌+◌, ◌<◌, ◌≤◌, Bool, true, false, cond, List, [], ◌∷◌, ◌++◌, Option, Some, None, is_some, refl, sym, ap, subst, ◌∙◌, ◌⊎◌, inl, inr, arith}
+use Rattle.std.proofs.Common.{◌≡◌, ℕ, ◌+◌, ◌<◌, ◌≤◌, Bool, true, false, cond, List, [], Option, Some, None, is_some, refl, sym, ap, subst, ◌∙◌, ◌⊎◌, inl, inr, arith}
 use Rattle.std.proofs.lemmas.Bool.Decides.{eqb_tells}
 use Rattle.std.specs.Ordering.{nat_cmp}
 use Rattle.std.specs.Cmp.{nat_cmp_total}
@@ -9,22 +9,16 @@ use Rattle.item_pool.specs.Contents.{Contents}
 use Rattle.item_pool.specs.declared.pool.Item.{Item}
 use Rattle.item_pool.specs.declared.pool.InsertRefusal.{InsertRefusal}
 use Rattle.item_pool.specs.declared.pool.InsertRefusal.TheVariants.{NoMemory, Spent}
-use Rattle.item_ring.proofs.Callers.{in_with_after, in_with_before, new_with_before}
-use Rattle.item_ring.specs.RingLists.{RingLists, IsIn, IsLinkedIn, AreApart, ring, list_in, with_after, with_before}
+use Rattle.item_ring.specs.RingLists.{RingLists, IsIn, IsLinkedIn, AreApart, ring, list_in}
 use Rattle.item_ring.proofs.Maps.{get_new, get_else}
-use Rattle.item_ring.proofs.Lists.{in_left, in_right}
 use Rattle.item_list.specs.declared.node.Node.{Node}
-use Rattle.item_list.specs.Items.{Items, items, pairs_behind, pairs_before, Enters, HasItem, Returns, ReturnsBeside, beside_of}
+use Rattle.item_list.specs.declared.side.Side.{Side}
+use Rattle.item_list.specs.Sides.{with_at, with_beside, pairs_beside}
+use Rattle.item_list.specs.Items.{Items, items, Enters, HasItem, Returns, ReturnsBeside, beside_of}
 use Rattle.item_list.specs.Kept.{members, IsHeaded, Opens, node, IsListed, items_of, IsKept, Makes, Comes, Declined}
-use Rattle.item_list.proofs.Pairs.{some_same, some_none, listed_same, IsPair, listed_end, listed_behind, listed_before}
+use Rattle.item_list.proofs.Pairs.{some_same, some_none, listed_same, IsPair, listed_at, listed_beside}
+use Rattle.item_list.proofs.Beside.{in_at, at_in, in_beside, beside_in}
 use Rattle.item_list.proofs.Steps.{members_new, headed_new, items_are, items_now}
-
-new_with_after : (at m : ℕ) (xs : List ℕ) → IsIn at xs → IsIn m (with_after at m xs)
-new_with_after at m [] i = absurd i
-new_with_after at m (x ∷ xs) i = elim (eqb_tells x at) [
-  | inl t ↦ subst (λ b. IsIn m (cond b (x ∷ m ∷ xs) (x ∷ with_after at m xs))) (sym t.0) (inr (inl refl))
-  | inr f ↦ subst (λ b. IsIn m (cond b (x ∷ m ∷ xs) (x ∷ with_after at m xs))) (sym f.0) (elim i [ inl e ↦ absurd (f.1 (sym e)) | inr j ↦ inr (new_with_after at m xs j) ])
-]
 
 missing : {Y : Type 0} (o : Option Y) → is_some o ≡ false → o ≡ None
 missing None e = refl
@@ -171,14 +165,10 @@ module _ {X : Type 0} where
     pair_new : IsPair b.tags q.live m (p.made + 1) x
     pair_new = new_pair s come.mid b t before after p q h m it x kept come.opens come.makes [] []
 
-    pub at_front : t.rings ≡ map.insert b.rings h (m ∷ ring b h) → IsKept t after q × Enters (items_of s before p) (items_of t after q) it ((p.made + 1, x) ∷ (items_of s before p).pairs)
-    at_front rings = in_ring (m ∷ members s before) ((p.made + 1, x) ∷ kept.pairs) ((p.made + 1, x) ∷ (items_of s before p).pairs)
-        (rings ∙ ap (λ ms. map.insert b.rings h (m ∷ ms)) ring_is) (pair_new.tag, pair_new.node, listed_old) (λ j i. inr i) (inl refl) (ap (λ ps. (p.made + 1, x) ∷ ps) (sym old))
-
-    pub at_rear : t.rings ≡ map.insert b.rings h (ring b h ++ m ∷ []) → IsKept t after q × Enters (items_of s before p) (items_of t after q) it ((items_of s before p).pairs ++ (p.made + 1, x) ∷ [])
-    at_rear rings = in_ring (members s before ++ m ∷ []) (kept.pairs ++ (p.made + 1, x) ∷ []) ((items_of s before p).pairs ++ (p.made + 1, x) ∷ [])
-        (rings ∙ ap (λ ms. map.insert b.rings h (ms ++ m ∷ [])) ring_is) (listed_end b.tags q.live m (p.made + 1) x pair_new (members s before) kept.pairs listed_old)
-        (λ j i. in_left j (members s before) (m ∷ []) i) (in_right m (members s before) (m ∷ []) (inl refl)) (ap (λ ps. ps ++ (p.made + 1, x) ∷ []) (sym old))
+    pub enters_at : (side : Side) → t.rings ≡ map.insert b.rings h (with_at side m (ring b h)) → IsKept t after q × Enters (items_of s before p) (items_of t after q) it (with_at side (p.made + 1, x) (items_of s before p).pairs)
+    enters_at side rings = in_ring (with_at side m (members s before)) (with_at side (p.made + 1, x) kept.pairs) (with_at side (p.made + 1, x) (items_of s before p).pairs)
+        (rings ∙ ap (λ ms. map.insert b.rings h (with_at side m ms)) ring_is) (listed_at b.tags q.live m (p.made + 1) x pair_new side (members s before) kept.pairs listed_old)
+        (λ j i. in_at side j m (members s before) i) (at_in side m (members s before)) (ap (with_at side (p.made + 1, x)) (sym old))
 
     module _ (k : ℕ) (n : Node X) (e : map.get p.live k ≡ Some n) where
       pub beside_linked : IsLinkedIn b h n.member
@@ -193,19 +183,12 @@ module _ {X : Type 0} where
         node = old_live s come.mid b t before after p q h m it x kept come.opens come.makes [] [] k n e;
       }
 
-      pub at_behind : ((g : ℕ) → IsLinkedIn b g n.member → t.rings ≡ map.insert b.rings g (with_after n.member m (ring b g)))
-          → IsKept t after q × Enters (items_of s before p) (items_of t after q) it (pairs_behind k (p.made + 1, x) (items_of s before p).pairs)
-      at_behind rings = in_ring (with_after n.member m (members s before)) (pairs_behind k (p.made + 1, x) kept.pairs) (pairs_behind k (p.made + 1, x) (items_of s before p).pairs)
-          (rings h beside_linked ∙ ap (λ ms. map.insert b.rings h (with_after n.member m ms)) ring_is)
-          (listed_behind b.tags q.live n.member k n.value pair_old m (p.made + 1) x pair_new (members s before) kept.pairs listed_old)
-          (λ j i. in_with_after j n.member m (members s before) i) (new_with_after n.member m (members s before) (kept.found k n e).0) (ap (pairs_behind k (p.made + 1, x)) (sym old))
-
-      pub at_before : ((g : ℕ) → IsLinkedIn b g n.member → t.rings ≡ map.insert b.rings g (with_before n.member m (ring b g)))
-          → IsKept t after q × Enters (items_of s before p) (items_of t after q) it (pairs_before k (p.made + 1, x) (items_of s before p).pairs)
-      at_before rings = in_ring (with_before n.member m (members s before)) (pairs_before k (p.made + 1, x) kept.pairs) (pairs_before k (p.made + 1, x) (items_of s before p).pairs)
-          (rings h beside_linked ∙ ap (λ ms. map.insert b.rings h (with_before n.member m ms)) ring_is)
-          (listed_before b.tags q.live n.member k n.value pair_old m (p.made + 1) x pair_new (members s before) kept.pairs listed_old)
-          (λ j i. in_with_before j n.member m (members s before) i) (new_with_before n.member m (members s before) (kept.found k n e).0) (ap (pairs_before k (p.made + 1, x)) (sym old))
+      pub enters_beside : (side : Side) → ((g : ℕ) → IsLinkedIn b g n.member → t.rings ≡ map.insert b.rings g (with_beside side n.member m (ring b g)))
+          → IsKept t after q × Enters (items_of s before p) (items_of t after q) it (pairs_beside side k (p.made + 1, x) (items_of s before p).pairs)
+      enters_beside side rings = in_ring (with_beside side n.member m (members s before)) (pairs_beside side k (p.made + 1, x) kept.pairs) (pairs_beside side k (p.made + 1, x) (items_of s before p).pairs)
+          (rings h beside_linked ∙ ap (λ ms. map.insert b.rings h (with_beside side n.member m ms)) ring_is)
+          (listed_beside b.tags q.live n.member k n.value pair_old side m (p.made + 1) x pair_new (members s before) kept.pairs listed_old)
+          (λ j i. in_beside side j n.member m (members s before) i) (beside_in side n.member m (members s before) (kept.found k n e).0) (ap (pairs_beside side k (p.made + 1, x)) (sym old))
 
   pub beside_returns : (l : Items X) (s : ℕ) (x : X) (why : InsertRefusal X) → HasItem l s → Returns (items {X = X} [] l.made) x why → ReturnsBeside l s x (beside_of why)
   beside_returns l s x (NoMemory y) has r = (r.0, has, r.1)

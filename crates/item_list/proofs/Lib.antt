@@ -1,3 +1,4 @@
+pub mod Beside
 pub mod Enters
 pub mod Exits
 pub mod Neighbours

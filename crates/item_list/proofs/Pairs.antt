@@ -5,10 +5,14 @@ use Rattle.std.specs.Prelude.{◌==◌}
 use Rattle.std.specs.Ordering.{nat_cmp}
 use Rattle.std.specs.FinMap as map
 use Rattle.std.specs.FinMap.{FinMap}
-use Rattle.item_ring.specs.RingLists.{IsIn, without, with_after, with_before, front, back}
+use Rattle.item_ring.specs.RingLists.{IsIn, without}
 use Rattle.item_list.specs.declared.node.Node.{Node}
-use Rattle.item_list.specs.Items.{serials, value_at, pairs_without, pairs_behind, pairs_before, pairs_with}
+use Rattle.item_list.specs.declared.side.Side.{Side}
+use Rattle.item_list.specs.declared.side.Side.TheVariants.{Front, Rear}
+use Rattle.item_list.specs.Items.{serials, value_at, pairs_without, pairs_with}
+use Rattle.item_list.specs.Sides.{with_at, with_beside, end_of, near, near_round, pairs_beside}
 use Rattle.item_list.specs.Kept.{node, IsListed, entry, tagged, pairs_in}
+use Rattle.item_list.proofs.Beside.{both_of, beside_more, pairs_more}
 
 pub some_same : {A : Type 0} (a b : A) → Some a ≡ Some b → a ≡ b
 some_same a b e = cc
@@ -35,45 +39,36 @@ Tagged t [] (k ∷ ks) = ⊥
 Tagged t (m ∷ ms) [] = ⊥
 Tagged t (m ∷ ms) (k ∷ ks) = (map.get t m ≡ Some k) × Tagged t ms ks
 
-pub front_tag : (t : Tags) (ms ks : List ℕ) → Tagged t ms ks → (m k : ℕ) → Some m ≡ front ms → map.get t m ≡ Some k → Some k ≡ front ks
-front_tag t [] [] h m k e g = absurd (some_none m e)
-front_tag t [] (j ∷ ks) h m k e g = absurd h
-front_tag t (y ∷ ms) [] h m k e g = absurd h
-front_tag t (y ∷ ms) (j ∷ ks) h m k e g = sym g ∙ ap (map.get t) (some_same m y e) ∙ h.0
+pub end_tag : (side : Side) (t : Tags) (ms ks : List ℕ) → Tagged t ms ks → (m k : ℕ) → Some m ≡ end_of side ms → map.get t m ≡ Some k → Some k ≡ end_of side ks
+end_tag Front t [] [] h m k e g = absurd (some_none m e)
+end_tag Rear t [] [] h m k e g = absurd (some_none m e)
+end_tag side t [] (j ∷ ks) h m k e g = absurd h
+end_tag side t (y ∷ ms) [] h m k e g = absurd h
+end_tag Front t (y ∷ ms) (j ∷ ks) h m k e g = sym g ∙ ap (map.get t) (some_same m y e) ∙ h.0
+end_tag Rear t (y ∷ []) (j ∷ []) h m k e g = sym g ∙ ap (map.get t) (some_same m y e) ∙ h.0
+end_tag Rear t (y ∷ []) (j ∷ i ∷ ks) h m k e g = absurd h.1
+end_tag Rear t (y ∷ z ∷ ms) (j ∷ []) h m k e g = absurd h.1
+end_tag Rear t (y ∷ z ∷ ms) (j ∷ i ∷ ks) h m k e g = end_tag Rear t (z ∷ ms) (i ∷ ks) h.1 m k e g
 
-pub front_none : (t : Tags) (ms ks : List ℕ) → Tagged t ms ks → None ≡ front ms → None ≡ front ks
-front_none t [] [] h e = refl
-front_none t [] (j ∷ ks) h e = absurd h
-front_none t (y ∷ ms) [] h e = absurd h
-front_none t (y ∷ ms) (j ∷ ks) h e = absurd (some_none y (sym e))
+-- a list that has an entry has one at each end
+pub end_some : (side : Side) (y : ℕ) (ms : List ℕ) → None ≡ end_of side (y ∷ ms) → ⊥
+end_some Front y ms e = some_none y (sym e)
+end_some Rear y [] e = some_none y (sym e)
+end_some Rear y (z ∷ ms) e = end_some Rear z ms e
 
-pub back_tag : (t : Tags) (ms ks : List ℕ) → Tagged t ms ks → (m k : ℕ) → Some m ≡ back ms → map.get t m ≡ Some k → Some k ≡ back ks
-back_tag t [] [] h m k e g = absurd (some_none m e)
-back_tag t [] (j ∷ ks) h m k e g = absurd h
-back_tag t (y ∷ ms) [] h m k e g = absurd h
-back_tag t (y ∷ []) (j ∷ []) h m k e g = sym g ∙ ap (map.get t) (some_same m y e) ∙ h.0
-back_tag t (y ∷ []) (j ∷ i ∷ ks) h m k e g = absurd h.1
-back_tag t (y ∷ z ∷ ms) (j ∷ []) h m k e g = absurd h.1
-back_tag t (y ∷ z ∷ ms) (j ∷ i ∷ ks) h m k e g = back_tag t (z ∷ ms) (i ∷ ks) h.1 m k e g
+pub end_none : (side : Side) (t : Tags) (ms ks : List ℕ) → Tagged t ms ks → None ≡ end_of side ms → None ≡ end_of side ks
+end_none Front t [] [] h e = refl
+end_none Rear t [] [] h e = refl
+end_none side t [] (j ∷ ks) h e = absurd h
+end_none side t (y ∷ ms) [] h e = absurd h
+end_none side t (y ∷ ms) (j ∷ ks) h e = absurd (end_some side y ms e)
 
-pub back_some : (y : ℕ) (ms : List ℕ) → None ≡ back (y ∷ ms) → ⊥
-back_some y [] e = some_none y (sym e)
-back_some y (z ∷ ms) e = back_some z ms e
-
-pub back_none : (t : Tags) (ms ks : List ℕ) → Tagged t ms ks → None ≡ back ms → None ≡ back ks
-back_none t [] [] h e = refl
-back_none t [] (j ∷ ks) h e = absurd h
-back_none t (y ∷ ms) [] h e = absurd h
-back_none t (y ∷ ms) (j ∷ ks) h e = absurd (back_some y ms e)
-
-pub front_in : (ms : List ℕ) (m : ℕ) → Some m ≡ front ms → IsIn m ms
-front_in [] m e = absurd (some_none m e)
-front_in (y ∷ ms) m e = inl (some_same m y e)
-
-pub back_in : (ms : List ℕ) (m : ℕ) → Some m ≡ back ms → IsIn m ms
-back_in [] m e = absurd (some_none m e)
-back_in (y ∷ []) m e = inl (some_same m y e)
-back_in (y ∷ z ∷ ms) m e = inr (back_in (z ∷ ms) m e)
+pub end_in : (side : Side) (ms : List ℕ) (m : ℕ) → Some m ≡ end_of side ms → IsIn m ms
+end_in Front [] m e = absurd (some_none m e)
+end_in Front (y ∷ ms) m e = inl (some_same m y e)
+end_in Rear [] m e = absurd (some_none m e)
+end_in Rear (y ∷ []) m e = inl (some_same m y e)
+end_in Rear (y ∷ z ∷ ms) m e = inr (end_in Rear (z ∷ ms) m e)
 
 pub tagged_join : (t : Tags) (ms ks ns js : List ℕ) → Tagged t ms ks → Tagged t ns js → Tagged t (ms ++ ns) (ks ++ js)
 tagged_join t [] [] ns js a b = b
@@ -111,6 +106,22 @@ cut t k (i ∷ before) behind (m ∷ ms) [] h e = absurd h
 cut t k (i ∷ before) behind (m ∷ ms) (j ∷ ks) h e =
     let c = cut t k before behind ms ks h.1 (rest_same j i ks (before ++ k ∷ behind) e) in
     record { front = m ∷ c.front; mid = c.mid; rear = c.rear; is = ap (λ l. m ∷ l) c.is; tag = c.tag; fronts = (h.0 ∙ ap Some (first_same j i ks (before ++ k ∷ behind) e), c.fronts); rears = c.rears }
+
+-- what stands beside the one with the tag k
+module _ (side : Side) (t : Tags) (front rear before behind : List ℕ) (fronts : Tagged t front before) (rears : Tagged t rear behind) where
+  pub near_tag : (m k : ℕ) → Some m ≡ near side front rear → map.get t m ≡ Some k → Some k ≡ near side before behind
+  near_tag = elim side as (λ side. (m k : ℕ) → Some m ≡ near side front rear → map.get t m ≡ Some k → Some k ≡ near side before behind)
+      [ Front ↦ end_tag Rear t front before fronts | Rear ↦ end_tag Front t rear behind rears ]
+
+  pub near_none : None ≡ near side front rear → None ≡ near side before behind
+  near_none = elim side as (λ side. None ≡ near side front rear → None ≡ near side before behind)
+      [ Front ↦ end_none Rear t front before fronts | Rear ↦ end_none Front t rear behind rears ]
+
+  pub round_tag : (mid k : ℕ) → map.get t mid ≡ Some k → (m j : ℕ) → Some m ≡ near_round side mid front rear → map.get t m ≡ Some j → Some j ≡ near_round side k before behind
+  round_tag mid k tag = elim side as (λ side. (m j : ℕ) → Some m ≡ near_round side mid front rear → map.get t m ≡ Some j → Some j ≡ near_round side k before behind) [
+    | Front ↦ end_tag Rear t (mid ∷ rear ++ front) (k ∷ behind ++ before) (tag, tagged_join t rear behind front before rears fronts)
+    | Rear ↦ end_tag Front t (rear ++ front ++ mid ∷ []) (behind ++ before ++ k ∷ []) (tagged_join t (rear ++ front) (behind ++ before) (mid ∷ []) (k ∷ []) (tagged_join t rear behind front before rears fronts) (tag, tt))
+  ]
 
 module _ {X : Type 0} where
   both : (P : List ℕ → List (ℕ × X) → Type 0) (b c v : Bool) → b ≡ v → c ≡ v → (xs ys : List ℕ) (ps qs : List (ℕ × X)) → P (cond v xs ys) (cond v ps qs) → P (cond b xs ys) (cond c ps qs)
@@ -172,29 +183,29 @@ module _ {X : Type 0} where
               (h.0, live p.0 e.3 ∙ h.1, rest)
         ]
 
-    pub listed_behind : (n r : ℕ) (v : X) → IsPair t l n r v → (ms : List ℕ) (ps : List (ℕ × X)) → IsListed t l ms ps → IsListed t l (with_after m n ms) (pairs_behind s (r, v) ps)
-    listed_behind n r v new [] [] h = tt
-    listed_behind n r v new [] (p ∷ ps) h = absurd h
-    listed_behind n r v new (y ∷ ms) [] h = absurd h
-    listed_behind n r v new (y ∷ ms) (p ∷ ps) h = elim (agree t l m s x is y p.0 p.1 h.0 h.1) [
-      | inl e ↦ both (IsListed t l) (y == m) (p.0 == s) true e.0 e.1 (y ∷ n ∷ ms) (y ∷ with_after m n ms) (p ∷ (r, v) ∷ ps) (p ∷ pairs_behind s (r, v) ps) (h.0, h.1, (new.tag, new.node, h.2))
-      | inr e ↦ both (IsListed t l) (y == m) (p.0 == s) false e.0 e.1 (y ∷ n ∷ ms) (y ∷ with_after m n ms) (p ∷ (r, v) ∷ ps) (p ∷ pairs_behind s (r, v) ps) (h.0, h.1, listed_behind n r v new ms ps h.2)
-    ]
+    listed_both : (side : Side) (n r : ℕ) (v : X) → IsPair t l n r v → (y : ℕ) (p : ℕ × X) (ms : List ℕ) (ps : List (ℕ × X)) → IsListed t l (y ∷ ms) (p ∷ ps) → IsListed t l (both_of side y n ms) (both_of side p (r, v) ps)
+    listed_both Front n r v new y p ms ps h = (new.tag, new.node, h)
+    listed_both Rear n r v new y p ms ps h = (h.0, h.1, (new.tag, new.node, h.2))
 
-    pub listed_before : (n r : ℕ) (v : X) → IsPair t l n r v → (ms : List ℕ) (ps : List (ℕ × X)) → IsListed t l ms ps → IsListed t l (with_before m n ms) (pairs_before s (r, v) ps)
-    listed_before n r v new [] [] h = tt
-    listed_before n r v new [] (p ∷ ps) h = absurd h
-    listed_before n r v new (y ∷ ms) [] h = absurd h
-    listed_before n r v new (y ∷ ms) (p ∷ ps) h = elim (agree t l m s x is y p.0 p.1 h.0 h.1) [
-      | inl e ↦ both (IsListed t l) (y == m) (p.0 == s) true e.0 e.1 (n ∷ y ∷ ms) (y ∷ with_before m n ms) ((r, v) ∷ p ∷ ps) (p ∷ pairs_before s (r, v) ps) (new.tag, new.node, h)
-      | inr e ↦ both (IsListed t l) (y == m) (p.0 == s) false e.0 e.1 (n ∷ y ∷ ms) (y ∷ with_before m n ms) ((r, v) ∷ p ∷ ps) (p ∷ pairs_before s (r, v) ps) (h.0, h.1, listed_before n r v new ms ps h.2)
-    ]
+    pub listed_beside : (side : Side) (n r : ℕ) (v : X) → IsPair t l n r v → (ms : List ℕ) (ps : List (ℕ × X)) → IsListed t l ms ps → IsListed t l (with_beside side m n ms) (pairs_beside side s (r, v) ps)
+    listed_beside Front n r v new [] [] h = tt
+    listed_beside Rear n r v new [] [] h = tt
+    listed_beside side n r v new [] (p ∷ ps) h = absurd h
+    listed_beside side n r v new (y ∷ ms) [] h = absurd h
+    listed_beside side n r v new (y ∷ ms) (p ∷ ps) h =
+        let on = listed_beside side n r v new ms ps h.2 in
+        let all : IsListed t l (cond (y == m) (both_of side y n ms) (y ∷ with_beside side m n ms)) (cond (p.0 == s) (both_of side p (r, v) ps) (p ∷ pairs_beside side s (r, v) ps)) = elim (agree t l m s x is y p.0 p.1 h.0 h.1) [
+          | inl e ↦ both (IsListed t l) (y == m) (p.0 == s) true e.0 e.1 (both_of side y n ms) (y ∷ with_beside side m n ms) (both_of side p (r, v) ps) (p ∷ pairs_beside side s (r, v) ps) (listed_both side n r v new y p ms ps h)
+          | inr e ↦ both (IsListed t l) (y == m) (p.0 == s) false e.0 e.1 (both_of side y n ms) (y ∷ with_beside side m n ms) (both_of side p (r, v) ps) (p ∷ pairs_beside side s (r, v) ps) (h.0, h.1, on)
+        ] in
+        subst (λ xs. IsListed t l xs (pairs_beside side s (r, v) (p ∷ ps))) (sym (beside_more side m n y ms)) (subst (IsListed t l (cond (y == m) (both_of side y n ms) (y ∷ with_beside side m n ms))) (sym (pairs_more side s (r, v) p ps)) all)
 
-    pub listed_end : (ms : List ℕ) (ps : List (ℕ × X)) → IsListed t l ms ps → IsListed t l (ms ++ m ∷ []) (ps ++ (s, x) ∷ [])
-    listed_end [] [] h = (is.tag, is.node, tt)
-    listed_end [] (p ∷ ps) h = absurd h
-    listed_end (y ∷ ms) [] h = absurd h
-    listed_end (y ∷ ms) (p ∷ ps) h = (h.0, h.1, listed_end ms ps h.2)
+    pub listed_at : (side : Side) (ms : List ℕ) (ps : List (ℕ × X)) → IsListed t l ms ps → IsListed t l (with_at side m ms) (with_at side (s, x) ps)
+    listed_at Front ms ps h = (is.tag, is.node, h)
+    listed_at Rear [] [] h = (is.tag, is.node, tt)
+    listed_at Rear [] (p ∷ ps) h = absurd h
+    listed_at Rear (y ∷ ms) [] h = absurd h
+    listed_at Rear (y ∷ ms) (p ∷ ps) h = (h.0, h.1, listed_at Rear ms ps h.2)
 
     pub value_there : (ms : List ℕ) (ps : List (ℕ × X)) → IsListed t l ms ps → IsIn m ms → value_at s ps ≡ Some x
     value_there [] ps h i = absurd i

@@ -1,16 +1,20 @@
 -- What each call of a chain says of the list that reads it. Below, l is the chain before the call, and t the chain after it.
-use Rattle.std.proofs.Common.{◌≡◌, ℕ, Bool, true, false, List, [], ◌∷◌, ◌++◌, reverse, Option, sym, ap, subst, ◌∙◌}
+use Rattle.std.proofs.Common.{◌≡◌, ℕ, Bool, true, false, List, reverse, Option, sym, ap, subst, ◌∙◌}
 use Rattle.std.proofs.lemmas.List.{reverse-reverse}
 use Rattle.std.specs.Prelude.{Result, Ok, Err, IfOk, IfErr}
 use Rattle.std.specs.Result.{MatchResult}
 use Rattle.item_pool.specs.declared.pool.Gone.{Gone}
 use Rattle.item_pool.specs.declared.pool.Item.{Item}
+use Rattle.item_pool.specs.declared.pool.InsertRefusal.{InsertRefusal}
+use Rattle.item_pool.specs.declared.pool.InsertRefusal.TheVariants as refusal
 use Rattle.item_list.specs.declared.node.BesideRefusal.{BesideRefusal}
 use Rattle.item_list.specs.declared.node.BesideRefusal.TheVariants as beside
-use Rattle.item_ring.specs.RingLists.{IsIn, IsDistinct, front, back}
-use Rattle.item_list.specs.Items.{Items, items, serials, pairs_without, pairs_behind, pairs_before, pairs_with, Holds, HasItem, Lacks, AreItems, Enters, ReturnsBeside, Removes, Assigns, MovesToFront, MovesToRear, HasBetween, IsBehind, IsBefore, IsCyclicBehind, IsCyclicBefore}
+use Rattle.item_ring.specs.RingLists.{IsIn, IsDistinct}
+use Rattle.item_list.specs.Items.{Items, items, serials, pairs_without, pairs_with, Holds, HasItem, Lacks, AreItems, Enters, Returns, ReturnsBeside, Removes, Assigns, HasBetween}
+use Rattle.item_list.specs.declared.side.Side.{Side}
+use Rattle.item_list.specs.Sides.{opposite, toward, with_at, end_of, pairs_beside, MovesTo, IsBeside, IsCyclicBeside}
 use Rattle.item_list.specs.Reads.{turned, read}
-use Rattle.item_list.proofs.Turned.{last_turned, first_turned, cut_turned, in_turned_back, distinct_turned, back_turned, front_turned, front_round, back_round, serials_turned, lacks_turned, holds_turned, has_turned, without_turned, with_turned, behind_turned, before_turned}
+use Rattle.item_list.proofs.Turned.{at_turned, cut_turned, in_turned_back, distinct_turned, end_turned, near_turned, round_turned, serials_turned, lacks_turned, holds_turned, has_turned, without_turned, with_turned, beside_turned}
 
 -- what follows of each outcome of a call
 pub outcomes : {T E : Type 0} (r : Result T E) {P P' : T → Type 0} {Q Q' : E → Type 0} → ((x : T) → P x → P' x) → ((e : E) → Q e → Q' e) → MatchResult r P Q → MatchResult r P' Q'
@@ -26,11 +30,13 @@ if_err (Ok x) f h = h
 if_err (Err e) f h = f e h
 
 module _ {X : Type 0} where
-  -- a fact of the list m, where the chain is turned
-  pub backwards : (P : Items X → Items X → Type 0) (b : Bool) (l t m : Items X) → read b l ≡ m → b ≡ true → P (turned l) (turned t) → P m (read b t)
-  backwards P b l t m is e h = subst (λ o. P o (read b t)) is (subst (λ d. P (read d l) (read d t)) (sym e) h)
+  -- what a chain says towards its side, of the list m towards the side of the list
+  pub towards : (P : Side → Items X → Items X → Type 0) (b : Bool) (side on : Side) (l t m : Items X) → read b l ≡ m → on ≡ toward b side → P on l t
+      → (P (opposite side) l t → P side (turned l) (turned t)) → P side m (read b t)
+  towards P false side on l t m is e h f = subst (λ o. P side o t) is (subst (λ d. P d l t) e h)
+  towards P true side on l t m is e h f = subst (λ o. P side o (turned t)) is (f (subst (λ d. P d l t) e h))
 
-  -- the same either way
+  -- what a chain says of no side
   pub both_ways : (P : Items X → Items X → Type 0) (b : Bool) (l t m : Items X) → read b l ≡ m → P l t → P (turned l) (turned t) → P m (read b t)
   both_ways P false l t m is f h = subst (λ o. P o t) is f
   both_ways P true l t m is f h = subst (λ o. P o (turned t)) is h
@@ -61,16 +67,23 @@ module _ {X : Type 0} where
   pub returned_beside : (l t : Items X) (s : ℕ) (x : X) (why : BesideRefusal X) → ReturnsBeside l s x why × (t ≡ l) → ReturnsBeside (turned l) s x why × (turned t ≡ turned l)
   returned_beside l t s x why h = (returns_beside l s x why h.0, ap turned h.1)
 
+  returns : (l : Items X) (x : X) (why : InsertRefusal X) → Returns l x why → Returns (turned l) x why
+  returns l x (refusal.NoMemory y) h = h
+  returns l x (refusal.Spent y) h = h
+
+  pub returned : (l t : Items X) (x : X) (why : InsertRefusal X) → Returns l x why × (t ≡ l) → Returns (turned l) x why × (turned t ≡ turned l)
+  returned l t x why h = (returns l x why h.0, ap turned h.1)
+
   module _ (l t : Items X) (it : Item) where
     enters : (us vs : List (ℕ × X)) → reverse us ≡ vs → Enters l t it us → Enters (turned l) (turned t) it vs
     enters us vs e h = record { serial = h.serial; pairs = ap reverse h.pairs ∙ e; made = h.made; within = h.within }
 
-    module _ (w : AreItems l) (s : ℕ) (q : ℕ × X) where
-      pub enters_before : HasItem l s × Enters l t it (pairs_behind s q l.pairs) → HasItem (turned l) s × Enters (turned l) (turned t) it (pairs_before s q (turned l).pairs)
-      enters_before h = (has l s h.0, enters (pairs_behind s q l.pairs) (pairs_before s q (reverse l.pairs)) (sym (before_turned s h.0.0 q l.pairs w.distinct h.0.1)) h.1)
+    pub enters_at : (side : Side) (q : ℕ × X) → Enters l t it (with_at (opposite side) q l.pairs) → Enters (turned l) (turned t) it (with_at side q (turned l).pairs)
+    enters_at side q = enters (with_at (opposite side) q l.pairs) (with_at side q (reverse l.pairs)) (at_turned side q l.pairs)
 
-      pub enters_behind : HasItem l s × Enters l t it (pairs_before s q l.pairs) → HasItem (turned l) s × Enters (turned l) (turned t) it (pairs_behind s q (turned l).pairs)
-      enters_behind h = (has l s h.0, enters (pairs_before s q l.pairs) (pairs_behind s q (reverse l.pairs)) (sym (behind_turned s h.0.0 q l.pairs w.distinct h.0.1)) h.1)
+    pub enters_beside : (w : AreItems l) (side : Side) (s : ℕ) (q : ℕ × X) → HasItem l s × Enters l t it (pairs_beside (opposite side) s q l.pairs)
+        → HasItem (turned l) s × Enters (turned l) (turned t) it (pairs_beside side s q (turned l).pairs)
+    enters_beside w side s q h = (has l s h.0, enters (pairs_beside (opposite side) s q l.pairs) (pairs_beside side s q (reverse l.pairs)) (beside_turned s h.0.0 q l.pairs w.distinct h.0.1 side) h.1)
 
   module _ (l : Items X) (w : AreItems l) (s : ℕ) where
     pub holds : (x : X) → Holds l s x → Holds (turned l) s x
@@ -86,39 +99,22 @@ module _ {X : Type 0} where
       pub assigns : (old x : X) → Assigns l t s old x → Assigns (turned l) (turned t) s old x
       assigns old x h = (holds old h.0, now_turned (pairs_with s x l.pairs) (pairs_with s x (reverse l.pairs)) (sym (with_turned s x l.pairs)) h.1)
 
-      pub moves_to_rear : MovesToFront l t s → MovesToRear (turned l) (turned t) s
-      moves_to_rear h =
-          let e : reverse ((s, h.0) ∷ pairs_without s l.pairs) ≡ pairs_without s (reverse l.pairs) ++ (s, h.0) ∷ []
-          = last_turned (s, h.0) (pairs_without s l.pairs) ∙ ap (λ ps. ps ++ (s, h.0) ∷ []) (sym (without_turned s l.pairs)) in
-          (h.0, (holds h.0 h.1.0, now_turned ((s, h.0) ∷ pairs_without s l.pairs) (pairs_without s (reverse l.pairs) ++ (s, h.0) ∷ []) e h.1.1))
+      pub moves_to : (side : Side) → MovesTo (opposite side) l t s → MovesTo side (turned l) (turned t) s
+      moves_to side h =
+          let q : ℕ × X = (s, h.0) in
+          let e = at_turned side q (pairs_without s l.pairs) ∙ ap (with_at side q) (sym (without_turned s l.pairs)) in
+          (h.0, (holds h.0 h.1.0, now_turned (with_at (opposite side) q (pairs_without s l.pairs)) (with_at side q (pairs_without s (reverse l.pairs))) e h.1.1))
 
-      pub moves_to_front : MovesToRear l t s → MovesToFront (turned l) (turned t) s
-      moves_to_front h =
-          let e : reverse (pairs_without s l.pairs ++ (s, h.0) ∷ []) ≡ (s, h.0) ∷ pairs_without s (reverse l.pairs)
-          = first_turned (s, h.0) (pairs_without s l.pairs) ∙ ap (λ ps. (s, h.0) ∷ ps) (sym (without_turned s l.pairs)) in
-          (h.0, (holds h.0 h.1.0, now_turned (pairs_without s l.pairs ++ (s, h.0) ∷ []) ((s, h.0) ∷ pairs_without s (reverse l.pairs)) e h.1.1))
+  pub end_item : (l : Items X) (side : Side) → end_of (opposite side) (serials l.pairs) ≡ end_of side (serials (turned l).pairs)
+  end_item l side = end_turned side (serials l.pairs) ∙ ap (end_of side) (sym (serials_turned l.pairs))
 
-  pub first : (l : Items X) → back (serials l.pairs) ≡ front (serials (turned l).pairs)
-  first l = sym (front_turned (serials l.pairs)) ∙ ap front (sym (serials_turned l.pairs))
-
-  pub last : (l : Items X) → front (serials l.pairs) ≡ back (serials (turned l).pairs)
-  last l = sym (back_turned (serials l.pairs)) ∙ ap back (sym (serials_turned l.pairs))
-
-  module _ (l : Items X) (s : ℕ) where
+  module _ (l : Items X) (s : ℕ) (side : Side) where
     between : (before behind : List ℕ) → HasBetween (turned l) s before behind → HasBetween l s (reverse behind) (reverse before)
     between before behind h =
         sym (reverse-reverse (serials l.pairs)) ∙ ap reverse (sym (serials_turned l.pairs)) ∙ ap reverse h ∙ cut_turned s before behind
 
-    module _ (r : Option Item) where
-      pub is_behind : IsBefore l s r → IsBehind (turned l) s r
-      is_behind h = (has l s h.0, λ before behind b. h.1 (reverse behind) (reverse before) (between before behind b) ∙ back_turned behind)
+    pub is_beside : (r : Option Item) → IsBeside (opposite side) l s r → IsBeside side (turned l) s r
+    is_beside r h = (has l s h.0, λ before behind b. h.1 (reverse behind) (reverse before) (between before behind b) ∙ near_turned side before behind)
 
-      pub is_before : IsBehind l s r → IsBefore (turned l) s r
-      is_before h = (has l s h.0, λ before behind b. h.1 (reverse behind) (reverse before) (between before behind b) ∙ front_turned before)
-
-    module _ (it : Item) where
-      pub is_cyclic_behind : IsCyclicBefore l s it → IsCyclicBehind (turned l) s it
-      is_cyclic_behind h = (has l s h.0, λ before behind b. h.1 (reverse behind) (reverse before) (between before behind b) ∙ front_round s before behind)
-
-      pub is_cyclic_before : IsCyclicBehind l s it → IsCyclicBefore (turned l) s it
-      is_cyclic_before h = (has l s h.0, λ before behind b. h.1 (reverse behind) (reverse before) (between before behind b) ∙ back_round s before behind)
+    pub is_round : (it : Item) → IsCyclicBeside (opposite side) l s it → IsCyclicBeside side (turned l) s it
+    is_round it h = (has l s h.0, λ before behind b. h.1 (reverse behind) (reverse before) (between before behind b) ∙ round_turned side s before behind)

@@ -1,5 +1,5 @@
 -- What each step leaves of a list.
-use Rattle.std.proofs.Common.{◌≡◌, ℕ, ◌-◌, ◌<◌, ◌≤◌, Bool, true, false, cond, List, [], ◌∷◌, ◌++◌, length, suc, Option, Some, None, is_some, refl, sym, ap, subst, ◌∙◌, ◌⊎◌, inl, inr, arith}
+use Rattle.std.proofs.Common.{◌≡◌, ℕ, ◌-◌, ◌<◌, ◌≤◌, Bool, true, false, cond, List, [], ◌∷◌, length, suc, Option, Some, None, is_some, refl, sym, ap, subst, ◌∙◌, ◌⊎◌, inl, inr, arith}
 use Rattle.std.proofs.lemmas.Bool.Decides.{eqb_tells}
 use Rattle.std.specs.Ordering.{nat_cmp}
 use Rattle.std.specs.Cmp.{nat_cmp_total}
@@ -11,11 +11,14 @@ use Rattle.item_pool.specs.declared.pool.Gone.{Gone}
 use Rattle.item_ring.specs.RingLists.{RingLists, IsIn, IsDistinct, IsHead, IsLinked, IsLinkedIn, AreApart, ring, list_in, without}
 use Rattle.item_ring.proofs.Maps.{get_new, get_else, get_gone, get_left}
 use Rattle.item_ring.proofs.Apart.{list_new}
-use Rattle.item_ring.proofs.Lists.{still_in, in_left, in_right}
+use Rattle.item_ring.proofs.Lists.{still_in}
 use Rattle.item_list.specs.declared.node.Node.{Node}
+use Rattle.item_list.specs.declared.side.Side.{Side}
+use Rattle.item_list.specs.Sides.{with_at}
 use Rattle.item_list.specs.Items.{Items, items, serials, pairs_without, Holds, Lacks, pairs_with, AreItems}
 use Rattle.item_list.specs.Kept.{members, IsHeaded, Opens, node, IsListed, items_of, IsKept, IsNamed}
-use Rattle.item_list.proofs.Pairs.{some_same, some_none, pairs_are, IsPair, listed_without, listed_end, listed_with, value_there, value_gone, Tagged, tags_listed, named_listed}
+use Rattle.item_list.proofs.Beside.{in_at, at_in}
+use Rattle.item_list.proofs.Pairs.{some_same, some_none, pairs_are, IsPair, listed_without, listed_at, listed_with, value_there, value_gone, Tagged, tags_listed, named_listed}
 
 -- the member of a live serial is linked into the ring of the head
 linked_in : (s : RingLists) (head : Option ℕ) (m : ℕ) → IsHeaded s head → IsIn m (members s head) → (h : ℕ) × ((head ≡ Some h) × IsLinkedIn s h m)
@@ -214,33 +217,20 @@ module _ {X : Type 0} where
     stays : (j : ℕ) → IsIn j (members s head) → (j ≡ n.member) ⊎ IsIn j (without n.member (members s head))
     stays j i = elim (eqb_tells j n.member) [ inl w ↦ inl w.1 | inr w ↦ inr (still_in j n.member (members s head) i w.1) ]
 
-    turned : {A B C D : Type 0} → A ⊎ B → (A → C ⊎ D) → (B → C ⊎ D) → C ⊎ D
-    turned (inl a) f g = f a
-    turned (inr b) f g = g b
+    moved_in : (side : Side) (j : ℕ) → (j ≡ n.member) ⊎ IsIn j (without n.member (members s head)) → IsIn j (with_at side n.member (without n.member (members s head)))
+    moved_in side j (inl w) = subst (λ i. IsIn i (with_at side n.member (without n.member (members s head)))) (sym w) (at_in side n.member (without n.member (members s head)))
+    moved_in side j (inr i) = in_at side j n.member (without n.member (members s head)) i
 
-    pub to_front : t.rings ≡ map.insert u.rings h (n.member ∷ ring u h)
-        → IsKept t head p × (items_of t head p ≡ items ((k, n.value) ∷ pairs_without k (items_of s head p).pairs) p.made)
-    to_front rings =
-        let ys : List ℕ = n.member ∷ without n.member (members s head) in
-        let now : t.rings ≡ map.insert u.rings h ys = rings ∙ ap (λ ms. map.insert u.rings h (n.member ∷ ms)) left in (
-          kept_moved s t head p kept u.rings h ys ((k, n.value) ∷ pairs_without k kept.pairs) head_is now (tags ∙ same) apart (pair.tag, pair.node, listed_else) stays,
-          items_moved s t head p kept u.rings h ys ((k, n.value) ∷ pairs_without k kept.pairs) head_is now (tags ∙ same) apart (pair.tag, pair.node, listed_else) stays
-              ∙ ap (λ (l : Items X). items ((k, n.value) ∷ pairs_without k l.pairs) p.made) (sym (items_are s head p kept)),
-        )
-
-    rear_stays : (j : ℕ) → (j ≡ n.member) ⊎ IsIn j (without n.member (members s head)) → IsIn j (without n.member (members s head) ++ n.member ∷ [])
-    rear_stays j (inl w) = in_right j (without n.member (members s head)) (n.member ∷ []) (inl w)
-    rear_stays j (inr i) = in_left j (without n.member (members s head)) (n.member ∷ []) i
-
-    pub to_rear : t.rings ≡ map.insert u.rings h (ring u h ++ n.member ∷ [])
-        → IsKept t head p × (items_of t head p ≡ items (pairs_without k (items_of s head p).pairs ++ (k, n.value) ∷ []) p.made)
-    to_rear rings =
-        let ys : List ℕ = without n.member (members s head) ++ n.member ∷ [] in
-        let now : t.rings ≡ map.insert u.rings h ys = rings ∙ ap (λ ms. map.insert u.rings h (ms ++ n.member ∷ [])) left in
-        let listed = listed_end s.tags p.live n.member k n.value pair (without n.member (members s head)) (pairs_without k kept.pairs) listed_else in (
-          kept_moved s t head p kept u.rings h ys (pairs_without k kept.pairs ++ (k, n.value) ∷ []) head_is now (tags ∙ same) apart listed (λ j i. rear_stays j (stays j i)),
-          items_moved s t head p kept u.rings h ys (pairs_without k kept.pairs ++ (k, n.value) ∷ []) head_is now (tags ∙ same) apart listed (λ j i. rear_stays j (stays j i))
-              ∙ ap (λ (l : Items X). items (pairs_without k l.pairs ++ (k, n.value) ∷ []) p.made) (sym (items_are s head p kept)),
+    pub moves_to : (side : Side) → t.rings ≡ map.insert u.rings h (with_at side n.member (ring u h))
+        → IsKept t head p × (items_of t head p ≡ items (with_at side (k, n.value) (pairs_without k (items_of s head p).pairs)) p.made)
+    moves_to side rings =
+        let ys : List ℕ = with_at side n.member (without n.member (members s head)) in
+        let zs : List (ℕ × X) = with_at side (k, n.value) (pairs_without k kept.pairs) in
+        let now : t.rings ≡ map.insert u.rings h ys = rings ∙ ap (λ ms. map.insert u.rings h (with_at side n.member ms)) left in
+        let listed = listed_at s.tags p.live n.member k n.value pair side (without n.member (members s head)) (pairs_without k kept.pairs) listed_else in (
+          kept_moved s t head p kept u.rings h ys zs head_is now (tags ∙ same) apart listed (λ j i. moved_in side j (stays j i)),
+          items_moved s t head p kept u.rings h ys zs head_is now (tags ∙ same) apart listed (λ j i. moved_in side j (stays j i))
+              ∙ ap (λ (l : Items X). items (with_at side (k, n.value) (pairs_without k l.pairs)) p.made) (sym (items_are s head p kept)),
         )
 
     -- the member that was taken out is loose, and the ring of h is there

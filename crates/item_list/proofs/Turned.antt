@@ -5,22 +5,34 @@ use Rattle.std.proofs.lemmas.List.{reverse-append, reverse-reverse, append_assoc
 use Rattle.std.specs.Prelude.{◌==◌}
 use Rattle.item_ring.specs.RingLists.{IsIn, IsDistinct, front, back}
 use Rattle.item_ring.proofs.Lists.{in_left, in_right, distinct_push}
-use Rattle.item_list.specs.Items.{serials, value_at, pairs_without, pairs_behind, pairs_before, pairs_with}
+use Rattle.item_list.specs.Items.{serials, value_at, pairs_without, pairs_with}
+use Rattle.item_list.specs.declared.side.Side.{Side}
+use Rattle.item_list.specs.declared.side.Side.TheVariants.{Front, Rear}
+use Rattle.item_list.specs.Sides.{opposite, with_at, end_of, near, near_round, pairs_beside}
+use Rattle.item_list.proofs.Beside.{both_of, pairs_more}
 use Rattle.item_list.proofs.Pairs.{some_none}
 
 -- what stood first stands last, and the other way round
-pub last_turned : {A : Type 0} (x : A) (xs : List A) → reverse (x ∷ xs) ≡ reverse xs ++ x ∷ []
+last_turned : {A : Type 0} (x : A) (xs : List A) → reverse (x ∷ xs) ≡ reverse xs ++ x ∷ []
 last_turned x xs = reverse-append (x ∷ []) xs
 
-pub first_turned : {A : Type 0} (x : A) (xs : List A) → reverse (xs ++ x ∷ []) ≡ x ∷ reverse xs
+first_turned : {A : Type 0} (x : A) (xs : List A) → reverse (xs ++ x ∷ []) ≡ x ∷ reverse xs
 first_turned x xs = reverse-append xs (x ∷ [])
 
 -- a cut of the reverse
 pub cut_turned : {A : Type 0} (x : A) (xs ys : List A) → reverse (xs ++ x ∷ ys) ≡ reverse ys ++ x ∷ reverse xs
 cut_turned x xs ys = reverse-append xs (x ∷ ys) ∙ ap (λ l. l ++ reverse xs) (last_turned x ys) ∙ append_assoc (reverse ys) (x ∷ []) (reverse xs)
 
+pub at_turned : {A : Type 0} (side : Side) (x : A) (xs : List A) → reverse (with_at (opposite side) x xs) ≡ with_at side x (reverse xs)
+at_turned Front x xs = first_turned x xs
+at_turned Rear x xs = last_turned x xs
+
 two_turned : {A : Type 0} (x y : A) (xs ys : List A) → reverse (xs ++ x ∷ y ∷ ys) ≡ reverse ys ++ y ∷ x ∷ reverse xs
 two_turned x y xs ys = cut_turned x xs (y ∷ ys) ∙ ap (λ l. l ++ x ∷ reverse xs) (last_turned y ys) ∙ append_assoc (reverse ys) (y ∷ []) (x ∷ reverse xs)
+
+both_turned : {A : Type 0} (side : Side) (x y : A) (xs ys : List A) → reverse (xs ++ both_of (opposite side) x y ys) ≡ reverse ys ++ both_of side x y (reverse xs)
+both_turned Front x y xs ys = two_turned x y xs ys
+both_turned Rear x y xs ys = two_turned y x xs ys
 
 in_turned : (m : ℕ) (xs : List ℕ) → IsIn m xs → IsIn m (reverse xs)
 in_turned m [] i = i
@@ -39,25 +51,28 @@ back_push x [] = refl
 back_push x (y ∷ []) = refl
 back_push x (y ∷ z ∷ ys) = back_push x (z ∷ ys)
 
-pub back_turned : (xs : List ℕ) → back (reverse xs) ≡ front xs
+back_turned : (xs : List ℕ) → back (reverse xs) ≡ front xs
 back_turned [] = refl
 back_turned (x ∷ xs) = ap back (last_turned x xs) ∙ back_push x (reverse xs)
 
-pub front_turned : (xs : List ℕ) → front (reverse xs) ≡ back xs
-front_turned xs = sym (back_turned (reverse xs)) ∙ ap back (reverse-reverse xs)
+pub end_turned : (side : Side) (xs : List ℕ) → end_of (opposite side) xs ≡ end_of side (reverse xs)
+end_turned Front xs = ap back (sym (reverse-reverse xs)) ∙ back_turned (reverse xs)
+end_turned Rear xs = sym (back_turned xs)
 
--- round the ends
-pub front_round : (s : ℕ) (before behind : List ℕ) → back (s ∷ reverse before ++ reverse behind) ≡ front (behind ++ before ++ s ∷ [])
-front_round s before behind =
+-- beside an entry, and round the ends
+pub near_turned : (side : Side) (before behind : List ℕ) → near (opposite side) (reverse behind) (reverse before) ≡ near side before behind
+near_turned Front before behind = sym (end_turned Front before)
+near_turned Rear before behind = back_turned behind
+
+pub round_turned : (side : Side) (s : ℕ) (before behind : List ℕ) → near_round (opposite side) s (reverse behind) (reverse before) ≡ near_round side s before behind
+round_turned Front s before behind =
+    ap (λ l. front (l ++ s ∷ [])) (sym (reverse-append behind before))
+    ∙ ap front (sym (last_turned s (behind ++ before)))
+    ∙ sym (end_turned Front (s ∷ behind ++ before))
+round_turned Rear s before behind =
     ap (λ l. back (s ∷ l)) (sym (reverse-append behind before))
     ∙ ap back (sym (first_turned s (behind ++ before)))
     ∙ back_turned (behind ++ before ++ s ∷ [])
-
-pub back_round : (s : ℕ) (before behind : List ℕ) → front (reverse before ++ reverse behind ++ s ∷ []) ≡ back (s ∷ behind ++ before)
-back_round s before behind =
-    ap (λ l. front (l ++ s ∷ [])) (sym (reverse-append behind before))
-    ∙ ap front (sym (last_turned s (behind ++ before)))
-    ∙ front_turned (s ∷ behind ++ before)
 
 module _ {X : Type 0} where
   pub serials_join : (ps qs : List (ℕ × X)) → serials (ps ++ qs) ≡ serials ps ++ serials qs
@@ -179,18 +194,11 @@ module _ {X : Type 0} where
         }
   ]
 
-  behind_cut : (s : ℕ) (p q : ℕ × X) (ps qs : List (ℕ × X)) → p.0 ≡ s → (IsIn s (serials ps) → ⊥) → pairs_behind s q (ps ++ p ∷ qs) ≡ ps ++ p ∷ q ∷ qs
-  behind_cut s p q [] qs e out = elim (eqb_tells p.0 s) [ inl w ↦ ap (λ b. cond b (p ∷ q ∷ qs) (p ∷ pairs_behind s q qs)) w.0 | inr w ↦ absurd (w.1 e) ]
-  behind_cut s p q (r ∷ ps) qs e out = elim (eqb_tells r.0 s) [
+  cut_beside : (side : Side) (s : ℕ) (p q : ℕ × X) (ps qs : List (ℕ × X)) → p.0 ≡ s → (IsIn s (serials ps) → ⊥) → pairs_beside side s q (ps ++ p ∷ qs) ≡ ps ++ both_of side p q qs
+  cut_beside side s p q [] qs e out = pairs_more side s q p qs ∙ elim (eqb_tells p.0 s) [ inl w ↦ ap (λ b. cond b (both_of side p q qs) (p ∷ pairs_beside side s q qs)) w.0 | inr w ↦ absurd (w.1 e) ]
+  cut_beside side s p q (r ∷ ps) qs e out = pairs_more side s q r (ps ++ p ∷ qs) ∙ elim (eqb_tells r.0 s) [
     | inl w ↦ absurd (out (inl (sym w.1)))
-    | inr w ↦ ap (λ b. cond b (r ∷ q ∷ (ps ++ p ∷ qs)) (r ∷ pairs_behind s q (ps ++ p ∷ qs))) w.0 ∙ ap (λ l. r ∷ l) (behind_cut s p q ps qs e (λ i. out (inr i)))
-  ]
-
-  before_cut : (s : ℕ) (p q : ℕ × X) (ps qs : List (ℕ × X)) → p.0 ≡ s → (IsIn s (serials ps) → ⊥) → pairs_before s q (ps ++ p ∷ qs) ≡ ps ++ q ∷ p ∷ qs
-  before_cut s p q [] qs e out = elim (eqb_tells p.0 s) [ inl w ↦ ap (λ b. cond b (q ∷ p ∷ qs) (p ∷ pairs_before s q qs)) w.0 | inr w ↦ absurd (w.1 e) ]
-  before_cut s p q (r ∷ ps) qs e out = elim (eqb_tells r.0 s) [
-    | inl w ↦ absurd (out (inl (sym w.1)))
-    | inr w ↦ ap (λ b. cond b (q ∷ r ∷ (ps ++ p ∷ qs)) (r ∷ pairs_before s q (ps ++ p ∷ qs))) w.0 ∙ ap (λ l. r ∷ l) (before_cut s p q ps qs e (λ i. out (inr i)))
+    | inr w ↦ ap (λ b. cond b (both_of side r q (ps ++ p ∷ qs)) (r ∷ pairs_beside side s q (ps ++ p ∷ qs))) w.0 ∙ ap (λ l. r ∷ l) (cut_beside side s p q ps qs e (λ i. out (inr i)))
   ]
 
   module _ (s : ℕ) (x : X) (q : ℕ × X) (ps : List (ℕ × X)) (d : IsDistinct (serials ps)) (e : value_at s ps ≡ Some x) where
@@ -206,14 +214,10 @@ module _ {X : Type 0} where
     around : reverse ps ≡ reverse cut.behind ++ cut.pair ∷ reverse cut.before
     around = ap reverse cut.is ∙ cut_turned cut.pair cut.before cut.behind
 
-    pub behind_turned : pairs_behind s q (reverse ps) ≡ reverse (pairs_before s q ps)
-    behind_turned =
-        ap (pairs_behind s q) around ∙ behind_cut s cut.pair q (reverse cut.behind) (reverse cut.before) cut.named out_behind
-        ∙ sym (two_turned q cut.pair cut.before cut.behind)
-        ∙ ap reverse (sym (before_cut s cut.pair q cut.before cut.behind cut.named out_before)) ∙ ap (λ l. reverse (pairs_before s q l)) (sym cut.is)
-
-    pub before_turned : pairs_before s q (reverse ps) ≡ reverse (pairs_behind s q ps)
-    before_turned =
-        ap (pairs_before s q) around ∙ before_cut s cut.pair q (reverse cut.behind) (reverse cut.before) cut.named out_behind
-        ∙ sym (two_turned cut.pair q cut.before cut.behind)
-        ∙ ap reverse (sym (behind_cut s cut.pair q cut.before cut.behind cut.named out_before)) ∙ ap (λ l. reverse (pairs_behind s q l)) (sym cut.is)
+    pub beside_turned : (side : Side) → reverse (pairs_beside (opposite side) s q ps) ≡ pairs_beside side s q (reverse ps)
+    beside_turned side =
+        ap (λ l. reverse (pairs_beside (opposite side) s q l)) cut.is
+        ∙ ap reverse (cut_beside (opposite side) s cut.pair q cut.before cut.behind cut.named out_before)
+        ∙ both_turned side cut.pair q cut.before cut.behind
+        ∙ sym (cut_beside side s cut.pair q (reverse cut.behind) (reverse cut.before) cut.named out_behind)
+        ∙ ap (pairs_beside side s q) (sym around)

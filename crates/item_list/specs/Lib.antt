@@ -2,3 +2,4 @@ pub mod Chained
 pub mod Items
 pub mod Kept
 pub mod Reads
+pub mod Sides

@@ -1,22 +1,26 @@
 //! The chain: a ring of members for the order, and a pool of nodes for the values.
 ghost use Rattle.std.specs.Prelude.{◌≡◌, ℕ, ◌+◌, ◌<◌, ◌≤◌, List, [], ◌∷◌, ◌++◌, length, Some, None, IfOk, IfErr, MatchResult};
 ghost use Rattle.std.specs.FinMap as map;
-ghost use Rattle.item_ring.specs.RingLists.{AreApart, front, back};
+ghost use Rattle.item_ring.specs.RingLists.{AreApart};
 ghost use Rattle.item_list.specs.Kept.{Opens, IsHeaded, IsKept, IsNamed, Makes, Comes, Declines, Declined};
-ghost use Rattle.item_list.specs.Items.{items, serials, serial_of, pairs_before, pairs_behind, pairs_with, Holds, HasItem, Lacks, AreItems, Enters, Returns, ReturnsBeside, Removes, Assigns, MovesToFront, MovesToRear, IsBehind, IsBefore, IsCyclicBehind, IsCyclicBefore};
+ghost use Rattle.item_list.specs.Items.{items, serials, serial_of, pairs_with, Holds, HasItem, Lacks, AreItems, Enters, Returns, ReturnsBeside, Removes, Assigns};
+ghost use Rattle.item_list.specs.Sides.{with_at, end_of, pairs_beside, MovesTo, IsBeside, IsCyclicBeside};
 
 use crate::node::{BesideRefusal, Node};
+use crate::side::{Side, end_member, link_at, link_beside, member_beside, member_round};
 use item_pool::{Gone, InsertRefusal, Item, MOST_SERIALS, Pool};
 use item_ring::{Head, Member, RingRefusal, Rings};
 use std::alloc::Global;
 use std::marker::Model;
 use std::mem;
 
-/// The values in one order, which a list reads forwards or backwards. Each call does what the list's of its name does.
+/// The values in one order, which a list reads forwards or backwards. A call with a side does
+/// towards it what a list's does.
 ///
-/// A clause sees it as a list. Where the answer read backwards rests on serials being distinct, the call says that too.
+/// A clause sees it as a list. Where the answer read backwards rests on serials being distinct, the
+/// call says that too.
 #[derive(Drop)]
-pub struct Chain<E> {
+pub(crate) struct Chain<E> {
     rings: Rings,
     /// The ring of all members, which is made with the first value.
     head: Option<Head>,
@@ -73,7 +77,8 @@ fn make_node<E>(
     Ok((member, item))
 }
 
-/// Takes a value in under the next serial, with a member that is loose, and makes the ring where there is none.
+/// Takes a value in under the next serial, with a member that is loose, and makes the ring where
+/// there is none.
 fn enter<E>(
     rings: &mut Rings,
     head: &mut Option<Head>,
@@ -107,7 +112,7 @@ fn item_at<E>(rings: &Rings, nodes: &Pool<Node<E>>, member: Member) -> Item
 
 impl<E: Drop> Chain<E> {
     /// A chain of no values, which takes no memory.
-    pub fn new(alloc: Global) -> Chain<E>
+    pub(crate) fn new(alloc: Global) -> Chain<E>
         ensures { result ≡ items [] 0 }
     {
         Chain {
@@ -117,29 +122,28 @@ impl<E: Drop> Chain<E> {
         }
     }
 
-    /// Puts a value at the front.
-    pub fn push(&mut self, v: E) -> Result<Item, InsertRefusal<E>>
-        ensures ok { IfOk result (λ it. Enters self.old self.new it ((self.old.made + 1, v) ∷ self.old.pairs)) }
+    /// Puts a value at the end.
+    pub(crate) fn put(&mut self, side: Side, v: E) -> Result<Item, InsertRefusal<E>>
+        ensures ok { IfOk result (λ it.
+            Enters self.old self.new it (with_at side (self.old.made + 1, v) self.old.pairs)) }
         ensures err { IfErr result (λ why. Returns self.old v why × (self.new ≡ self.old)) }
     {
         let (ring, member, item) = enter(&mut self.rings, &mut self.head, &mut self.nodes, v)?;
-        self.rings.push_front(ring, member);
+        link_at(&mut self.rings, side, ring, member);
         Ok(item)
     }
 
-    /// Puts a value at the rear.
-    pub fn append(&mut self, v: E) -> Result<Item, InsertRefusal<E>>
-        ensures ok { IfOk result (λ it. Enters self.old self.new it (self.old.pairs ++ (self.old.made + 1, v) ∷ [])) }
-        ensures err { IfErr result (λ why. Returns self.old v why × (self.new ≡ self.old)) }
-    {
-        let (ring, member, item) = enter(&mut self.rings, &mut self.head, &mut self.nodes, v)?;
-        self.rings.push_back(ring, member);
-        Ok(item)
-    }
-
-    /// Puts a value right before an item.
-    pub fn insert_before(&mut self, at: Item, v: E) -> Result<Item, BesideRefusal<E>>
-        ensures ok { IfOk result (λ it. HasItem self.old at.serial × Enters self.old self.new it (pairs_before at.serial (self.old.made + 1, v) self.old.pairs)) }
+    /// Puts a value right beside an item.
+    pub(crate) fn put_beside(
+        &mut self,
+        side: Side,
+        at: Item,
+        v: E,
+    ) -> Result<Item, BesideRefusal<E>>
+        ensures ok { IfOk result (λ it.
+            HasItem self.old at.serial
+            × Enters self.old self.new it
+            (pairs_beside side at.serial (self.old.made + 1, v) self.old.pairs)) }
         ensures err { IfErr result (λ why. ReturnsBeside self.old at.serial v why × (self.new ≡ self.old)) }
         ensures whole { AreItems self.old }
     {
@@ -148,27 +152,12 @@ impl<E: Drop> Chain<E> {
             Err(why) => return Err(BesideRefusal::Gone(v, why)),
         };
         let (_ring, member, item) = enter(&mut self.rings, &mut self.head, &mut self.nodes, v)?;
-        self.rings.insert_before(place, member);
-        Ok(item)
-    }
-
-    /// Puts a value right behind an item.
-    pub fn insert_behind(&mut self, at: Item, v: E) -> Result<Item, BesideRefusal<E>>
-        ensures ok { IfOk result (λ it. HasItem self.old at.serial × Enters self.old self.new it (pairs_behind at.serial (self.old.made + 1, v) self.old.pairs)) }
-        ensures err { IfErr result (λ why. ReturnsBeside self.old at.serial v why × (self.new ≡ self.old)) }
-        ensures whole { AreItems self.old }
-    {
-        let place = match self.nodes.get(at) {
-            Ok(node) => node.member,
-            Err(why) => return Err(BesideRefusal::Gone(v, why)),
-        };
-        let (_ring, member, item) = enter(&mut self.rings, &mut self.head, &mut self.nodes, v)?;
-        self.rings.insert_after(place, member);
+        link_beside(&mut self.rings, side, place, member);
         Ok(item)
     }
 
     /// Takes a value out.
-    pub fn del_item(&mut self, it: Item) -> Result<E, Gone>
+    pub(crate) fn del_item(&mut self, it: Item) -> Result<E, Gone>
         ensures answer { MatchResult result (λ v. Removes self.old self.new it.serial v) (λ why. Lacks self.old it.serial why × (self.new ≡ self.old)) }
         ensures whole { AreItems self.old }
     {
@@ -179,7 +168,7 @@ impl<E: Drop> Chain<E> {
     }
 
     /// The value of an item.
-    pub fn contents(&self, it: Item) -> Result<&E, Gone>
+    pub(crate) fn contents(&self, it: Item) -> Result<&E, Gone>
         ensures answer { MatchResult result (λ v. Holds self.now it.serial v.now) (λ why. Lacks self.now it.serial why) }
         ensures whole { AreItems self.now }
     {
@@ -188,7 +177,7 @@ impl<E: Drop> Chain<E> {
     }
 
     /// Gives an item another value.
-    pub fn assign(&mut self, it: Item, v: E) -> Result<E, Gone>
+    pub(crate) fn assign(&mut self, it: Item, v: E) -> Result<E, Gone>
         ensures answer { MatchResult result (λ old. Assigns self.old self.new it.serial old v) (λ why. Lacks self.old it.serial why × (self.new ≡ self.old)) }
         ensures whole { AreItems self.old }
     {
@@ -196,92 +185,51 @@ impl<E: Drop> Chain<E> {
         Ok(mem::replace(&mut node.value, v))
     }
 
-    /// The first item.
-    pub fn first(&self) -> Option<Item>
-        ensures { serial_of result ≡ front (serials self.now.pairs) }
+    /// The item at the end.
+    pub(crate) fn end_item(&self, side: Side) -> Option<Item>
+        ensures { serial_of result ≡ end_of side (serials self.now.pairs) }
     {
         let ring = self.head?;
-        let member = self.rings.first(ring)?;
+        let member = end_member(&self.rings, side, ring)?;
         Some(item_at(&self.rings, &self.nodes, member))
     }
 
-    /// The last item.
-    pub fn last(&self) -> Option<Item>
-        ensures { serial_of result ≡ back (serials self.now.pairs) }
-    {
-        let ring = self.head?;
-        let member = self.rings.last(ring)?;
-        Some(item_at(&self.rings, &self.nodes, member))
-    }
-
-    /// The item behind.
-    pub fn succ(&self, it: Item) -> Result<Option<Item>, Gone>
-        ensures { MatchResult result (λ r. IsBehind self.now it.serial r) (λ why. Lacks self.now it.serial why) }
+    /// The item right beside another.
+    pub(crate) fn item_beside(&self, side: Side, it: Item) -> Result<Option<Item>, Gone>
+        ensures { MatchResult result (IsBeside side self.now it.serial) (Lacks self.now it.serial) }
     {
         let node = self.nodes.get(it)?;
-        match self.rings.next(node.member) {
-            Some(next) => Ok(Some(item_at(&self.rings, &self.nodes, next))),
+        match member_beside(&self.rings, side, node.member) {
+            Some(near) => Ok(Some(item_at(&self.rings, &self.nodes, near))),
             None => Ok(None),
         }
     }
 
-    /// The item before.
-    pub fn pred(&self, it: Item) -> Result<Option<Item>, Gone>
-        ensures { MatchResult result (λ r. IsBefore self.now it.serial r) (λ why. Lacks self.now it.serial why) }
+    /// The item right beside another, round the ends.
+    pub(crate) fn item_round(&self, side: Side, it: Item) -> Result<Item, Gone>
+        ensures { MatchResult result (IsCyclicBeside side self.now it.serial) (Lacks self.now it.serial) }
     {
         let node = self.nodes.get(it)?;
-        match self.rings.prev(node.member) {
-            Some(prev) => Ok(Some(item_at(&self.rings, &self.nodes, prev))),
-            None => Ok(None),
-        }
+        let near = member_round(&self.rings, side, node.member);
+        Ok(item_at(&self.rings, &self.nodes, near))
     }
 
-    /// The item behind, and the first behind the last.
-    pub fn cyclic_succ(&self, it: Item) -> Result<Item, Gone>
-        ensures { MatchResult result (λ r. IsCyclicBehind self.now it.serial r) (λ why. Lacks self.now it.serial why) }
-    {
-        let node = self.nodes.get(it)?;
-        let next = self.rings.cyclic_next(node.member);
-        Ok(item_at(&self.rings, &self.nodes, next))
-    }
-
-    /// The item before, and the last before the first.
-    pub fn cyclic_pred(&self, it: Item) -> Result<Item, Gone>
-        ensures { MatchResult result (λ r. IsCyclicBefore self.now it.serial r) (λ why. Lacks self.now it.serial why) }
-    {
-        let node = self.nodes.get(it)?;
-        let prev = self.rings.cyclic_prev(node.member);
-        Ok(item_at(&self.rings, &self.nodes, prev))
-    }
-
-    /// Moves an item before all others.
-    pub fn move_to_front(&mut self, it: Item) -> Result<(), Gone>
-        ensures answer { MatchResult result (λ _. MovesToFront self.old self.new it.serial) (λ why. Lacks self.old it.serial why × (self.new ≡ self.old)) }
+    /// Moves an item to the end.
+    pub(crate) fn move_to(&mut self, side: Side, it: Item) -> Result<(), Gone>
+        ensures answer { MatchResult result (λ _. MovesTo side self.old self.new it.serial)
+            (λ why. Lacks self.old it.serial why × (self.new ≡ self.old)) }
         ensures whole { AreItems self.old }
     {
         let node = self.nodes.get(it)?;
         let moved = node.member;
         let ring = self.rings.head_of(moved);
         self.rings.unlink(moved);
-        self.rings.push_front(ring, moved);
-        Ok(())
-    }
-
-    /// Moves an item behind all others.
-    pub fn move_to_rear(&mut self, it: Item) -> Result<(), Gone>
-        ensures answer { MatchResult result (λ _. MovesToRear self.old self.new it.serial) (λ why. Lacks self.old it.serial why × (self.new ≡ self.old)) }
-        ensures whole { AreItems self.old }
-    {
-        let node = self.nodes.get(it)?;
-        let moved = node.member;
-        let ring = self.rings.head_of(moved);
-        self.rings.unlink(moved);
-        self.rings.push_back(ring, moved);
+        link_at(&mut self.rings, side, ring, moved);
         Ok(())
     }
 
     /// How many values there are.
-    pub fn len(&self) -> u32
+    pub(crate) fn len(&self) -> u32
         ensures len { result ≡ length self.now.pairs }
         ensures whole { AreItems self.now }
     {

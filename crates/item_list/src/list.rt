@@ -2,9 +2,11 @@
 ghost use Rattle.std.specs.Prelude.{◌≡◌, ◌+◌, List, [], ◌∷◌, ◌++◌, length, reverse, IfOk, IfErr, MatchResult};
 ghost use Rattle.item_ring.specs.RingLists.{front, back};
 ghost use Rattle.item_list.specs.Items.{items, serials, serial_of, pairs_before, pairs_behind, Holds, HasItem, Lacks, AreItems, Enters, Returns, ReturnsBeside, Removes, Assigns, MovesToFront, MovesToRear, IsBehind, IsBefore, IsCyclicBehind, IsCyclicBefore};
+ghost use Rattle.item_list.specs.Sides.{with_at, end_of, pairs_beside, MovesTo, IsBeside, IsCyclicBeside};
 
 use crate::chain::Chain;
 use crate::node::BesideRefusal;
+use crate::side::Side;
 use item_pool::{Gone, InsertRefusal, Item};
 use std::alloc::Global;
 use std::marker::Model;
@@ -46,17 +48,13 @@ impl<E: Drop> List<E> {
     ///
     /// # Errors
     ///
-    /// `Spent` exactly where 16,777,215 items were made, and `NoMemory` where there is no memory. The value comes back,
-    /// and the list is as before.
+    /// `Spent` exactly where 16,777,215 items were made, and `NoMemory` where there is no memory.
+    /// The value comes back, and the list is as before.
     pub fn push(&mut self, v: E) -> Result<Item, InsertRefusal<E>>
         ensures ok { IfOk result (λ it. Enters self.old self.new it ((self.old.made + 1, v) ∷ self.old.pairs)) }
         ensures err { IfErr result (λ why. Returns self.old v why × (self.new ≡ self.old)) }
     {
-        if self.is_turned {
-            self.chain.append(v)
-        } else {
-            self.chain.push(v)
-        }
+        self.put(Side::Front, v)
     }
 
     /// Puts a value at the rear.
@@ -68,28 +66,21 @@ impl<E: Drop> List<E> {
         ensures ok { IfOk result (λ it. Enters self.old self.new it (self.old.pairs ++ (self.old.made + 1, v) ∷ [])) }
         ensures err { IfErr result (λ why. Returns self.old v why × (self.new ≡ self.old)) }
     {
-        if self.is_turned {
-            self.chain.push(v)
-        } else {
-            self.chain.append(v)
-        }
+        self.put(Side::Rear, v)
     }
 
     /// Puts a value right before an item.
     ///
     /// # Errors
     ///
-    /// `Gone` where the item isn't in the list, as of `del_item`. Else `Spent` exactly where 16,777,215 items were made,
-    /// and `NoMemory` where there is no memory. The value comes back, and the list is as before.
+    /// `Gone` where the item isn't in the list, as of `del_item`. Else `Spent` exactly where
+    /// 16,777,215 items were made, and `NoMemory` where there is no memory. The value comes back,
+    /// and the list is as before.
     pub fn insert_before(&mut self, at: Item, v: E) -> Result<Item, BesideRefusal<E>>
         ensures ok { IfOk result (λ it. HasItem self.old at.serial × Enters self.old self.new it (pairs_before at.serial (self.old.made + 1, v) self.old.pairs)) }
         ensures err { IfErr result (λ why. ReturnsBeside self.old at.serial v why × (self.new ≡ self.old)) }
     {
-        if self.is_turned {
-            self.chain.insert_behind(at, v)
-        } else {
-            self.chain.insert_before(at, v)
-        }
+        self.put_beside(Side::Front, at, v)
     }
 
     /// Puts a value right behind an item.
@@ -101,19 +92,15 @@ impl<E: Drop> List<E> {
         ensures ok { IfOk result (λ it. HasItem self.old at.serial × Enters self.old self.new it (pairs_behind at.serial (self.old.made + 1, v) self.old.pairs)) }
         ensures err { IfErr result (λ why. ReturnsBeside self.old at.serial v why × (self.new ≡ self.old)) }
     {
-        if self.is_turned {
-            self.chain.insert_before(at, v)
-        } else {
-            self.chain.insert_behind(at, v)
-        }
+        self.put_beside(Side::Rear, at, v)
     }
 
     /// Takes a value out. Its serial isn't given again.
     ///
     /// # Errors
     ///
-    /// `Dead` where the serial is from 1 to the number made and isn't in the list, and `Unknown` where it is 0 or above.
-    /// The list is then as it was.
+    /// `Dead` where the serial is from 1 to the number made and isn't in the list, and `Unknown`
+    /// where it is 0 or above. The list is then as it was.
     pub fn del_item(&mut self, it: Item) -> Result<E, Gone>
         ensures { MatchResult result (λ v. Removes self.old self.new it.serial v) (λ why. Lacks self.old it.serial why × (self.new ≡ self.old)) }
     {
@@ -146,22 +133,14 @@ impl<E: Drop> List<E> {
     pub fn first(&self) -> Option<Item>
         ensures { serial_of result ≡ front (serials self.now.pairs) }
     {
-        if self.is_turned {
-            self.chain.last()
-        } else {
-            self.chain.first()
-        }
+        self.end_item(Side::Front)
     }
 
     /// The last item, and none exactly where the list is empty.
     pub fn last(&self) -> Option<Item>
         ensures { serial_of result ≡ back (serials self.now.pairs) }
     {
-        if self.is_turned {
-            self.chain.first()
-        } else {
-            self.chain.last()
-        }
+        self.end_item(Side::Rear)
     }
 
     /// The item behind, and none exactly where the item is the last.
@@ -172,11 +151,7 @@ impl<E: Drop> List<E> {
     pub fn succ(&self, it: Item) -> Result<Option<Item>, Gone>
         ensures { MatchResult result (λ r. IsBehind self.now it.serial r) (λ why. Lacks self.now it.serial why) }
     {
-        if self.is_turned {
-            self.chain.pred(it)
-        } else {
-            self.chain.succ(it)
-        }
+        self.item_beside(Side::Rear, it)
     }
 
     /// The item before, and none exactly where the item is the first.
@@ -187,11 +162,7 @@ impl<E: Drop> List<E> {
     pub fn pred(&self, it: Item) -> Result<Option<Item>, Gone>
         ensures { MatchResult result (λ r. IsBefore self.now it.serial r) (λ why. Lacks self.now it.serial why) }
     {
-        if self.is_turned {
-            self.chain.succ(it)
-        } else {
-            self.chain.pred(it)
-        }
+        self.item_beside(Side::Front, it)
     }
 
     /// The item behind, and the first behind the last.
@@ -202,11 +173,7 @@ impl<E: Drop> List<E> {
     pub fn cyclic_succ(&self, it: Item) -> Result<Item, Gone>
         ensures { MatchResult result (λ r. IsCyclicBehind self.now it.serial r) (λ why. Lacks self.now it.serial why) }
     {
-        if self.is_turned {
-            self.chain.cyclic_pred(it)
-        } else {
-            self.chain.cyclic_succ(it)
-        }
+        self.item_round(Side::Rear, it)
     }
 
     /// The item before, and the last before the first.
@@ -217,11 +184,7 @@ impl<E: Drop> List<E> {
     pub fn cyclic_pred(&self, it: Item) -> Result<Item, Gone>
         ensures { MatchResult result (λ r. IsCyclicBefore self.now it.serial r) (λ why. Lacks self.now it.serial why) }
     {
-        if self.is_turned {
-            self.chain.cyclic_succ(it)
-        } else {
-            self.chain.cyclic_pred(it)
-        }
+        self.item_round(Side::Front, it)
     }
 
     /// Moves an item before all others.
@@ -232,11 +195,7 @@ impl<E: Drop> List<E> {
     pub fn move_to_front(&mut self, it: Item) -> Result<(), Gone>
         ensures { MatchResult result (λ _. MovesToFront self.old self.new it.serial) (λ why. Lacks self.old it.serial why × (self.new ≡ self.old)) }
     {
-        if self.is_turned {
-            self.chain.move_to_rear(it)
-        } else {
-            self.chain.move_to_front(it)
-        }
+        self.move_to(Side::Front, it)
     }
 
     /// Moves an item behind all others.
@@ -247,11 +206,7 @@ impl<E: Drop> List<E> {
     pub fn move_to_rear(&mut self, it: Item) -> Result<(), Gone>
         ensures { MatchResult result (λ _. MovesToRear self.old self.new it.serial) (λ why. Lacks self.old it.serial why × (self.new ≡ self.old)) }
     {
-        if self.is_turned {
-            self.chain.move_to_front(it)
-        } else {
-            self.chain.move_to_rear(it)
-        }
+        self.move_to(Side::Rear, it)
     }
 
     /// Turns the order round. Each item keeps its value.
@@ -269,5 +224,51 @@ impl<E: Drop> List<E> {
         ensures whole { AreItems self.now }
     {
         self.chain.len()
+    }
+}
+
+/// A call towards either side is one towards a side of the chain.
+impl<E: Drop> List<E> {
+    fn put(&mut self, side: Side, v: E) -> Result<Item, InsertRefusal<E>>
+        ensures ok { IfOk result (λ it.
+            Enters self.old self.new it (with_at side (self.old.made + 1, v) self.old.pairs)) }
+        ensures err { IfErr result (λ why. Returns self.old v why × (self.new ≡ self.old)) }
+    {
+        self.chain.put(side.of_chain(self.is_turned), v)
+    }
+
+    fn put_beside(&mut self, side: Side, at: Item, v: E) -> Result<Item, BesideRefusal<E>>
+        ensures ok { IfOk result (λ it.
+            HasItem self.old at.serial
+            × Enters self.old self.new it
+            (pairs_beside side at.serial (self.old.made + 1, v) self.old.pairs)) }
+        ensures err { IfErr result (λ why. ReturnsBeside self.old at.serial v why × (self.new ≡ self.old)) }
+    {
+        self.chain.put_beside(side.of_chain(self.is_turned), at, v)
+    }
+
+    fn end_item(&self, side: Side) -> Option<Item>
+        ensures { serial_of result ≡ end_of side (serials self.now.pairs) }
+    {
+        self.chain.end_item(side.of_chain(self.is_turned))
+    }
+
+    fn item_beside(&self, side: Side, it: Item) -> Result<Option<Item>, Gone>
+        ensures { MatchResult result (IsBeside side self.now it.serial) (Lacks self.now it.serial) }
+    {
+        self.chain.item_beside(side.of_chain(self.is_turned), it)
+    }
+
+    fn item_round(&self, side: Side, it: Item) -> Result<Item, Gone>
+        ensures { MatchResult result (IsCyclicBeside side self.now it.serial) (Lacks self.now it.serial) }
+    {
+        self.chain.item_round(side.of_chain(self.is_turned), it)
+    }
+
+    fn move_to(&mut self, side: Side, it: Item) -> Result<(), Gone>
+        ensures { MatchResult result (λ _. MovesTo side self.old self.new it.serial)
+            (λ why. Lacks self.old it.serial why × (self.new ≡ self.old)) }
+    {
+        self.chain.move_to(side.of_chain(self.is_turned), it)
     }
 }

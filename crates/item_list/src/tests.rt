@@ -1,5 +1,5 @@
-//! What no clause says: each call's answer where there is memory, that a long run of calls goes as on a plain vector,
-//! and that each value is dropped once.
+//! What no clause says: each call's answer where there is memory, that a long run of calls goes as
+//! on a plain vector, and that each value is dropped once.
 use crate::{BesideRefusal, Gone, InsertRefusal, Item, List};
 use std::alloc::{AllocError, Global};
 use std::cell::Cell;
@@ -261,7 +261,8 @@ impl Drop for Counted<'_> {
     }
 }
 
-/// Takes a hundred values in, replaces ten, takes forty out, and drops all: a hundred and ten values.
+/// Takes a hundred values in, replaces ten, takes forty out, and drops all: a hundred and ten
+/// values.
 fn fill_and_drop(alloc: Global, drops: &Cell<u32>) -> Result<(), Fail> {
     let mut list = List::new(alloc);
     for _ in 0..100 {

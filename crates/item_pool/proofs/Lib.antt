@@ -10,4 +10,5 @@ pub mod Rooms
 pub mod Rows
 pub mod Seen
 pub mod Steps
+pub mod Sure
 pub mod Tables

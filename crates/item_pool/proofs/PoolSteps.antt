@@ -7,6 +7,8 @@ use Rattle.std.specs.FinMap as map
 use Rattle.item_pool.specs.declared.block.Cell.{Cell}
 use Rattle.item_pool.specs.declared.pool.Pool.TheInside.{Inside}
 use Rattle.item_pool.specs.CellsKept.{cell_at, live_of, IsFree, IsTable, IsChain, IsGrown}
+use Rattle.item_pool.specs.declared.table.Table.{Table}
+use Rattle.item_pool.specs.Lookups.{Sets}
 use Rattle.item_pool.specs.Table.{slot_of}
 use Rattle.item_pool.specs.Chained.{blank, chained}
 use Rattle.item_pool.proofs.Blocks.{length-chained, chained_value, chained_number, chained_link, chained_last}
@@ -21,7 +23,13 @@ module _ {X : Type 0} where
   module _ (p q : Inside X) (is : IsPool p) (y : X) (pos : 0 < p.free) (room : p.made < 16777215)
       (cells : q.cells ≡ set p.cells p.first (record { number = p.made + 1; link = (cell_at p.cells p.first).link; value = Some y }))
       (first : q.first ≡ (cell_at p.cells p.first).link) (free : q.free ≡ p.free - 1) (live : q.live ≡ p.live + 1) (made : q.made ≡ p.made + 1)
-      (here : slot_of q.table (p.made + 1) ≡ Some p.first) (others : (s : ℕ) → s ≢ p.made + 1 → slot_of q.table s ≡ slot_of p.table s) where
+      (next : q.table.next ≡ p.table.next + 1) (entry : Sets (slot_of p.table) (slot_of q.table) p.table.next (Some p.first)) where
+    here : slot_of q.table (p.made + 1) ≡ Some p.first
+    here = ap (slot_of q.table) (sym is.next) ∙ entry.here
+
+    others : (s : ℕ) → s ≢ p.made + 1 → slot_of q.table s ≡ slot_of p.table s
+    others s ne = entry.others s (λ e. ne (e ∙ is.next))
+
     abbrev new : Cell X
     new = record { number = p.made + 1; link = (cell_at p.cells p.first).link; value = Some y }
 
@@ -52,6 +60,7 @@ module _ {X : Type 0} where
     pub insert_pool : IsPool q
     insert_pool = record {
       table = subst (λ m. IsTable (cell_at q.cells) (slot_of q.table) m) (sym made) table;
+      next = omega (arith, next, is.next, made);
       chain = subst (λ n. IsChain (cell_at q.cells) n q.first q.free) (sym long) (subst (λ f. IsChain (cell_at q.cells) (length p.cells) f q.free) (sym first) (subst (λ f. IsChain (cell_at q.cells) (length p.cells) (cell_at p.cells p.first).link f) (sym free) chain));
       counted = live ∙ ap (λ n. n + 1) is.counted ∙ sym (ap map.len insert_live ∙ len_insert (live_of p.cells) (p.made + 1) y (seen_new p.cells (slot_of p.table) p.made is.table (p.made + 1) refl));
       total = let t : p.free + p.live ≡ length p.cells = is.total in omega (arith, long);
@@ -63,7 +72,7 @@ module _ {X : Type 0} where
   module _ (p q : Inside X) (is : IsPool p) (s slot : ℕ) (x : X) (at_slot : slot_of p.table s ≡ Some slot) (value : (cell_at p.cells slot).value ≡ Some x) (within : slot < length p.cells)
       (cells : q.cells ≡ set p.cells slot (record { number = p.free + 1; link = p.first; value = None }))
       (first : q.first ≡ slot) (free : q.free ≡ p.free + 1) (live : q.live ≡ p.live - 1) (made : q.made ≡ p.made)
-      (here : slot_of q.table s ≡ None) (others : (r : ℕ) → r ≢ s → slot_of q.table r ≡ slot_of p.table r) where
+      (next : q.table.next ≡ p.table.next) (here : slot_of q.table s ≡ None) (others : (r : ℕ) → r ≢ s → slot_of q.table r ≡ slot_of p.table r) where
     abbrev left : Cell X
     left = record { number = p.free + 1; link = p.first; value = None }
 
@@ -100,6 +109,7 @@ module _ {X : Type 0} where
     pub remove_pool : IsPool q
     remove_pool = record {
       table = subst (λ m. IsTable (cell_at q.cells) (slot_of q.table) m) (sym made) table_left;
+      next = omega (arith, next, is.next, made);
       chain = subst (λ n. IsChain (cell_at q.cells) n q.first q.free) (sym length_is) (subst (λ f. IsChain (cell_at q.cells) (length p.cells) f q.free) (sym first) (subst (λ f. IsChain (cell_at q.cells) (length p.cells) slot f) (sym free) chain_left));
       counted = let c : p.live ≡ map.len (live_of p.cells) = is.counted in omega (arith, fewer);
       total = let c : p.live ≡ map.len (live_of p.cells) = is.counted in let t : p.free + p.live ≡ length p.cells = is.total in omega (arith, fewer, length_is);
@@ -144,6 +154,7 @@ module _ {X : Type 0} where
     pub write_pool : IsPool q
     write_pool = record {
       table = subst (λ t. IsTable (cell_at q.cells) (slot_of t) q.made) (sym table_is) (subst (λ m. IsTable (cell_at q.cells) (slot_of p.table) m) (sym made) table_kept);
+      next = ap (λ (t : Table). t.next) table_is ∙ is.next ∙ ap (λ m. m + 1) (sym made);
       chain = subst (λ n. IsChain (cell_at q.cells) n q.first q.free) (sym as_long) (subst (λ f. IsChain (cell_at q.cells) (length p.cells) f q.free) (sym first) (subst (λ f. IsChain (cell_at q.cells) (length p.cells) p.first f) (sym free) chain_kept));
       counted = live ∙ is.counted ∙ sym as_many;
       total = let t : p.free + p.live ≡ length p.cells = is.total in omega (arith, as_long);
@@ -167,7 +178,7 @@ module _ {X : Type 0} where
       omega (arith, is.counted, len_remove (live_of p.cells) s f.0 (seen_some p.cells (slot_of p.table) p.made is.table s i e ∙ f.1.1))
 
   -- there are no cells
-  module _ (q : Inside X) (cells : q.cells ≡ []) (slots : (s : ℕ) → slot_of q.table s ≡ None) (free : q.free ≡ 0) (live : q.live ≡ 0) (made : q.made ≡ 0) where
+  module _ (q : Inside X) (cells : q.cells ≡ []) (slots : (s : ℕ) → slot_of q.table s ≡ None) (free : q.free ≡ 0) (live : q.live ≡ 0) (made : q.made ≡ 0) (next : q.table.next ≡ 1) where
     none : (i : ℕ) → (cell_at q.cells i).value ≡ None
     none i = ap (λ l. (cell_at l i).value) cells
 
@@ -181,6 +192,7 @@ module _ {X : Type 0} where
         listed = λ i s x l. let twice : None ≡ Some x = sym (none i) ∙ l.1 in cc;
         given = λ s i e. let twice : None ≡ Some i = sym (slots s) ∙ e in cc;
       };
+      next = omega (arith, next, made);
       chain = record {
         counted = λ i k f. absurd (omega (arith, f.0, empty_long));
         apart = λ i j k f h. absurd (omega (arith, f.0, empty_long));
@@ -235,7 +247,7 @@ module _ {X : Type 0} where
 
   -- there is more room
   module _ (p q : Inside X) (is : IsPool p) (grown : IsGrown p.cells q.cells) (chain : IsChain (cell_at q.cells) (length q.cells) q.first q.free) (total : q.free + p.live ≡ length q.cells)
-      (short : length q.cells < 2 ^ 27) (slots : (s : ℕ) → slot_of q.table s ≡ slot_of p.table s) (live : q.live ≡ p.live) (made : q.made ≡ p.made) where
+      (short : length q.cells < 2 ^ 27) (slots : (s : ℕ) → slot_of q.table s ≡ slot_of p.table s) (live : q.live ≡ p.live) (made : q.made ≡ p.made) (next : q.table.next ≡ p.table.next) where
     table_old : IsTable (cell_at q.cells) (slot_of p.table) p.made
     table_old = table_grow (cell_at p.cells) (cell_at q.cells) (length p.cells) grown.old (past_end p.cells) grown.new (slot_of p.table) p.made is.table
 
@@ -249,6 +261,7 @@ module _ {X : Type 0} where
     pub grow_pool : IsPool q
     grow_pool = record {
       table = subst (λ m. IsTable (cell_at q.cells) (slot_of q.table) m) (sym made) table_new;
+      next = omega (arith, next, is.next, made);
       chain = chain;
       counted = live ∙ is.counted ∙ sym (ap map.len grown.live);
       total = omega arith;

@@ -7,6 +7,7 @@ use Rattle.item_pool.specs.declared.pool.Pool.TheInside.{Inside}
 
 pub record IsPool {X : Type 0} (p : Inside X) : Type 0 where
   pub table : IsTable (cell_at p.cells) (slot_of p.table) p.made
+  pub next : p.table.next ≡ p.made + 1
   pub chain : IsChain (cell_at p.cells) (length p.cells) p.first p.free
   pub counted : p.live ≡ map.len (live_of p.cells)
   pub total : p.free + p.live ≡ length p.cells

@@ -65,8 +65,8 @@ fn free_cell<T>(len: u32, base: u32, free: u32, next: u32, index: u32) -> Cell<T
 impl<T> Block<T> {
     ghost use Rattle.item_pool.specs.CellLent.{lends_cell};
 
-    /// A block of `len` free cells, chained one behind the other with `next` behind the last. The first cell's slot is
-    /// `base`, and the chain from `next` on has `free` cells.
+    /// A block of `len` free cells, chained one behind the other with `next` behind the last. The
+    /// first cell's slot is `base`, and the chain from `next` on has `free` cells.
     pub(crate) fn new(
         alloc: Global,
         len: u32,

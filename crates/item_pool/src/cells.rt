@@ -34,8 +34,9 @@ impl<T> Model for Cells<T> {
     ghost invariant = { λ c. AreBlocks 64 c.blocks.items };
 }
 
-/// Where a slot lies: the number of its block, and its place there. Before a block there are 64 slots fewer than it has
-/// itself, so of the slot and 64 the highest bit tells the block, and the others tell the place.
+/// Where a slot lies: the number of its block, and its place there. Before a block there are 64
+/// slots fewer than it has itself, so of the slot and 64 the highest bit tells the block, and the
+/// others tell the place.
 #[inline]
 fn place_of(slot: u32) -> (usize, usize)
     ensures { LiesAt slot result.0 result.1 }
@@ -80,8 +81,8 @@ impl<T> Cells<T> {
         self.blocks[block].get_mut(place)
     }
 
-    /// A block of free cells more, chained in front of `next`, or no memory for them. It has 64 cells more than the `len`
-    /// that there are. The chain from `next` on has `free` cells.
+    /// A block of free cells more, chained in front of `next`, or no memory for them. It has 64
+    /// cells more than the `len` that there are. The chain from `next` on has `free` cells.
     pub(crate) fn grow(&mut self, len: u32, free: u32, next: u32) -> Result<(), AllocError>
         requires len { len ≡ length self.old }
         requires slots { len + (len + 64) < 2 ^ 32 }

@@ -1,7 +1,7 @@
 //! Homes: a serial's last bits say where it may lie with its slot, and one serial can lie there.
-ghost use Rattle.std.specs.Prelude.{◌≡◌, ℕ, ◌*◌, ◌%◌, ◌<◌, length, nat_eq, if◌then◌else◌, ◌↔◌, Some, None, OnOk, IsTrue, IsFalse, IsSome};
+ghost use Rattle.std.specs.Prelude.{◌≡◌, ℕ, ◌+◌, ◌*◌, ◌%◌, ◌^◌, ◌<◌, length, slice_set, nat_eq, if◌then◌else◌, ◌↔◌, Some, None, OnOk, IsTrue, IsFalse, IsSome};
 ghost use Rattle.std.specs.Int.{IsPowerOfTwo};
-ghost use Rattle.item_pool.specs.Homes.{at_home, IsFree};
+ghost use Rattle.item_pool.specs.Homes.{at_home, IsFree, AreFree, StayFree};
 ghost use Rattle.item_pool.specs.Lookups.{Sets};
 
 use std::alloc::{AllocError, Global};
@@ -20,8 +20,8 @@ pub struct Home {
 /// A home where no serial ever was.
 const NOBODY: Home = Home { serial: 0, slot: 0 };
 
-/// The homes of a table, none at first and then a power of two. A serial that lies elsewhere than in its own home, as
-/// a doubling leaves it, isn't there, and its place is free.
+/// The homes of a table, none at first and then a power of two. A serial that lies elsewhere than
+/// in its own home, as a doubling leaves it, isn't there, and its place is free.
 #[derive(Drop)]
 pub struct Homes {
     places: Vec<Home>,
@@ -75,13 +75,10 @@ impl Homes {
         }
     }
 
-    /// Puts a serial into its home where that is free, and answers whether it was.
+    /// Whether a serial has a home at which nobody is.
     #[inline]
-    pub(crate) fn settle(&mut self, serial: u32, slot: u32) -> bool
-        requires { 0 < serial }
-        ensures free { IsTrue result ↔ IsFree self.old serial }
-        ensures settled { IsTrue result → Sets (at_home self.old) (at_home self.new) serial (Some slot) }
-        ensures taken { IsFalse result → self.new ≡ self.old }
+    fn is_free(&self, serial: u32) -> bool
+        ensures { IsTrue result ↔ IsFree self.now serial }
     {
         let len = self.places.len();
         if len == 0 {
@@ -89,9 +86,39 @@ impl Homes {
         }
         let place = home_of(serial, len);
         let home = self.places[place];
-        if home.serial != 0 && home_of(home.serial, len) == place {
+        home.serial == 0 || home_of(home.serial, len) != place
+    }
+
+    /// Whether the `n` serials from `first` on have homes of their own, at which nobody is.
+    pub(crate) fn are_free(&self, first: u32, n: u32) -> bool
+        requires { first + n < 2 ^ 32 }
+        ensures { IsTrue result ↔ AreFree self.now first n }
+    {
+        if n as usize > self.places.len() {
             return false;
         }
+        for k in 0..n {
+            if !self.is_free(first + k) {
+                return false;
+            }
+        }
+        true
+    }
+
+    /// Puts a serial into its home where that is free, and answers whether it was.
+    #[inline]
+    pub(crate) fn settle(&mut self, serial: u32, slot: u32) -> bool
+        requires { 0 < serial }
+        ensures free { IsTrue result ↔ IsFree self.old serial }
+        ensures settled { IsTrue result → Sets (at_home self.old) (at_home self.new) serial (Some slot) }
+        ensures placed { IsTrue result → self.new
+            ≡ slice_set self.old (serial % length self.old) (record { serial = serial; slot = slot }) }
+        ensures taken { IsFalse result → self.new ≡ self.old }
+    {
+        if !self.is_free(serial) {
+            return false;
+        }
+        let place = home_of(serial, self.places.len());
         self.places[place] = Home { serial, slot };
         true
     }
@@ -101,6 +128,7 @@ impl Homes {
     pub(crate) fn leave(&mut self, serial: u32) -> bool
         ensures there { IsTrue result ↔ IsSome (at_home self.old serial) }
         ensures gone { Sets (at_home self.old) (at_home self.new) serial None }
+        ensures free { StayFree self.old self.new }
     {
         if self.get(serial).is_none() {
             return false;
@@ -110,9 +138,11 @@ impl Homes {
         true
     }
 
-    /// Makes homes for at least as many values, where there is memory for them. Who is at home stays there.
+    /// Makes homes for at least as many values, where there is memory for them. Who is at home
+    /// stays there.
     pub(crate) fn widen(&mut self, values: u32)
-        ensures { (s : ℕ) → at_home self.new s ≡ at_home self.old s }
+        ensures kept { (s : ℕ) → at_home self.new s ≡ at_home self.old s }
+        ensures free { StayFree self.old self.new }
     {
         while self.places.len() < values as usize {
             if self.double().is_err() {
@@ -121,10 +151,11 @@ impl Homes {
         }
     }
 
-    /// Twice as many homes, or the first ones. With the homes there twice, each serial is in its new home, whichever of
-    /// the two that is, and the other is free.
+    /// Twice as many homes, or the first ones. With the homes there twice, each serial is in its
+    /// new home, whichever of the two that is, and the other is free.
     fn double(&mut self) -> Result<(), AllocError>
         ensures kept { (s : ℕ) → at_home self.new s ≡ at_home self.old s }
+        ensures free { StayFree self.old self.new }
         ensures ok { OnOk result (length self.new ≡ (if nat_eq (length self.old) 0 then 64 else 2 * length self.old)) }
     {
         if self.places.is_empty() {

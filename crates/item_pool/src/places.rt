@@ -1,7 +1,7 @@
 //! A block of raw memory: a row of places, each of which is empty or holds a value.
 //!
-//! All that follows a pointer stands here, in six small functions: `allocate`, `deallocate`, `fill`, `take`, `get`
-//! and `get_mut`. Whatever is built on them is safe code.
+//! All that follows a pointer stands here, in six small functions: `allocate`, `deallocate`,
+//! `fill`, `take`, `get` and `get_mut`. Whatever is built on them is safe code.
 ghost use Rattle.std.specs.Prelude.{◌≡◌, ◌<◌, ℕ, List, Option, Some, None, length, replicate, get_or, slice_set, IfOk, ⊤};
 ghost use Rattle.std.specs.Borrow.{sem};
 ghost use Rattle.std.specs.Vec.Ownership.{FitsInBlock};
@@ -44,7 +44,8 @@ impl<T> Model for Places<T> {
     ghost also_shares = { λ p _ κ. places_lent T.row p.at p.row κ };
 }
 
-/// The right to give a block of `len` places back to the allocator that it came from. It takes no bytes.
+/// The right to give a block of `len` places back to the allocator that it came from. It takes no
+/// bytes.
 pub struct Deed<T, A: Allocator> {
     mark: PhantomData<*const (T, A)>,
     ghost at: { Ptr },

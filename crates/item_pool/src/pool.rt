@@ -17,8 +17,8 @@ use std::mem;
 /// The most serials that a pool gives: serials are 1 to this number.
 pub const MOST_SERIALS: u32 = 16_777_215;
 
-/// Names a value of a pool by its serial. The slot is a hint, by which the value is found sooner: no answer depends on
-/// it.
+/// Names a value of a pool by its serial. The slot is a hint, by which the value is found sooner:
+/// no answer depends on it.
 #[derive(Clone, Copy, PartialEq, Eq, Debug)]
 pub struct Item {
     /// Where the value lay when the item was made.
@@ -52,10 +52,11 @@ pub enum ReserveRefusal {
     NoMemory,
 }
 
-/// A pool of values, each named by the serial that it was given when it came in. Serials are given in turn, from 1 on.
+/// A pool of values, each named by the serial that it was given when it came in. Serials are given
+/// in turn, from 1 on.
 ///
-/// A clause sees the live values as a finite map from serials, with how many serials were made, and how many values
-/// can come in before there has to be more memory.
+/// A clause sees the live values as a finite map from serials, with how many serials were made, and
+/// how many values can come in before there has to be more memory.
 #[derive(Drop)]
 pub struct Pool<T> {
     cells: Cells<T>,
@@ -76,11 +77,10 @@ impl<T> Model for Pool<T> {
     ghost coded = { contents_code T.code };
 
     ghost use Rattle.std.specs.Prelude.{min};
-    ghost use Rattle.item_pool.specs.Table.{spare_of};
     ghost use Rattle.item_pool.specs.CellsKept.{live_of};
     ghost use Rattle.item_pool.specs.IsPool.{IsPool};
 
-    ghost view = { λ p. contents (live_of p.cells) p.made (min p.free (spare_of p.table)) };
+    ghost view = { λ p. contents (live_of p.cells) p.made (min p.free p.table.sure) };
 
     ghost invariant = { λ p. IsPool p };
 }
@@ -113,7 +113,8 @@ fn find<T>(cells: &Cells<T>, table: &Table, len: u32, it: Item) -> Option<u32>
     }
 }
 
-/// The cell of a live value, likewise. Where the item's slot is the right one, its place is worked out only once.
+/// The cell of a live value, likewise. Where the item's slot is the right one, its place is worked
+/// out only once.
 #[inline]
 fn look<'a, T>(cells: &'a Cells<T>, table: &Table, len: u32, it: Item) -> Option<&'a Cell<T>>
     requires len { len ≡ length cells.now }
@@ -156,7 +157,8 @@ fn occupy<T>(cells: &mut Cells<T>, slot: u32, serial: u32, value: T) -> u32
     }
 }
 
-/// Takes the value out of a live cell, and puts the cell in front of a chain, whose length is then `number`.
+/// Takes the value out of a live cell, and puts the cell in front of a chain, whose length is then
+/// `number`.
 fn vacate<T>(cells: &mut Cells<T>, slot: u32, number: u32, link: u32) -> T
     requires slot { slot < length cells.old }
     requires live { IsSome (cell_at cells.old slot).value }
@@ -172,7 +174,8 @@ fn vacate<T>(cells: &mut Cells<T>, slot: u32, number: u32, link: u32) -> T
     }
 }
 
-/// Adds free cells until there are at least `n`, or answers that there is no memory. The live cells are as before.
+/// Adds free cells until there are at least `n`, or answers that there is no memory. The live cells
+/// are as before.
 fn add_cells<T>(
     cells: &mut Cells<T>,
     first: &mut u32,
@@ -220,12 +223,13 @@ impl<T> Pool<T> {
         }
     }
 
-    /// Makes room for `n` values more, of which none is then refused. `n` is at most `MOST_SERIALS`.
+    /// Makes room for `n` values more, of which none is then refused. `n` is at most
+    /// `MOST_SERIALS`.
     ///
     /// # Errors
     ///
-    /// `NoMemory` where there is no memory, which isn't so where there is room for `n` already. The values are as before,
-    /// and there is no less room.
+    /// `NoMemory` where there is no memory, which isn't so where there is room for `n` already. The
+    /// values are as before, and there is no less room.
     pub fn reserve(&mut self, n: u32) -> Result<(), ReserveRefusal>
         requires { n ≤ 16777215 }
         ensures kept { IsAsBefore self.old self.new }
@@ -249,8 +253,9 @@ impl<T> Pool<T> {
     ///
     /// # Errors
     ///
-    /// `Spent` exactly where `MOST_SERIALS` serials were given, and `NoMemory` where there is no memory, which isn't so
-    /// where there is room to spare. The value comes back, and the others are as before.
+    /// `Spent` exactly where `MOST_SERIALS` serials were given, and `NoMemory` where there is no
+    /// memory, which isn't so where there is room to spare. The value comes back, and the others
+    /// are as before.
     pub fn insert(&mut self, value: T) -> Result<Item, InsertRefusal<T>>
         ensures ok { IfOk result (λ it. Inserts self.old self.new it value) }
         ensures err { IfErr result (λ why. Refuses self.old self.new value why) }
@@ -273,7 +278,7 @@ impl<T> Pool<T> {
         let slot = self.first;
         let serial = self.made + 1;
         let next = occupy(&mut self.cells, slot, serial, value);
-        self.table.insert(serial, slot);
+        self.table.insert(slot);
         self.first = next;
         self.free -= 1;
         self.live += 1;
@@ -285,7 +290,8 @@ impl<T> Pool<T> {
     ///
     /// # Errors
     ///
-    /// `Dead` where the serial is from 1 to the number made and isn't live, and `Unknown` where it is 0 or above.
+    /// `Dead` where the serial is from 1 to the number made and isn't live, and `Unknown` where it
+    /// is 0 or above.
     #[inline]
     pub fn get(&self, it: Item) -> Result<&T, Gone>
         ensures { MatchResult result (λ v. Holds self.now it.serial v.now) (λ why. Lacks self.now it.serial why) }
@@ -379,11 +385,6 @@ impl<T> Pool<T> {
     pub fn spare(&self) -> u32
         ensures { result ≡ self.now.spare }
     {
-        let entries = self.table.spare();
-        if entries < self.free as usize {
-            entries as u32
-        } else {
-            self.free
-        }
+        self.table.sure().min(self.free)
     }
 }

@@ -1,4 +1,5 @@
-//! What no clause says: each call's answer where there is memory, and that each value is dropped once.
+//! What no clause says: each call's answer where there is memory, and that each value is dropped
+//! once.
 use crate::{Gone, InsertRefusal, Item, MOST_SERIALS, Pool};
 use std::alloc::Global;
 use std::cell::Cell;
@@ -105,7 +106,8 @@ fn takes_in_what_it_has_room_for(rt: HostRuntime) {
     assert_eq!(rt; pool.made(), 1000);
 }
 
-/// Takes 6,400 values in, and out again all but each 64th: of 64 homes, one is that of all that stay.
+/// Takes 6,400 values in, and out again all but each 64th: of 64 homes, one is that of all that
+/// stay.
 fn keep_each_64th(pool: &mut Pool<u32>) -> u32 {
     let mut failed = 0u32;
     for value in 1..=6400u32 {

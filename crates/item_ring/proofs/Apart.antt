@@ -8,7 +8,7 @@ use Rattle.item_ring.specs.declared.block.State.TheVariants.{Free, Loose, Linked
 use Rattle.item_ring.specs.Nodes.{Slots, ring_of, value_of, state_of}
 use Rattle.item_ring.specs.RingLists.{RingLists, IsIn, list_in, ring, IsHead, IsLinkedIn, IsLoose, AreApart}
 use Rattle.item_ring.specs.AreRings.{is_head, is_member, IsRing, AreRings}
-use Rattle.item_ring.specs.Seen.{View}
+use Rattle.item_ring.specs.View.{View}
 use Rattle.item_ring.proofs.Maps.{get_new, get_else}
 
 pub head_loose : Head ≡ Loose → ⊥

@@ -5,15 +5,15 @@ use Rattle.std.specs.FinMap.{FinMap, len-insert}
 use Rattle.std.specs.Ordering.{nat_cmp}
 use Rattle.std.specs.Cmp.{nat_cmp_total}
 use Rattle.item_ring.specs.declared.block.State.TheVariants.{Free, Loose, Linked, Head}
-use Rattle.item_ring.specs.Nodes.{Slots, cell_at, next_of, prev_of, ring_of, value_of, state_of, Edits, Spliced, Unspliced}
+use Rattle.item_ring.specs.Nodes.{Slots, cell_at, next_of, prev_of, value_of, state_of, Edits, Spliced, Unspliced}
 use Rattle.item_ring.specs.RingLists.{IsIn, list_in, without}
-use Rattle.item_ring.specs.AreRings.{IsPath, IsRing, AreRings, IsChain, IsFree, IsStocked}
-use Rattle.item_ring.specs.Seen.{View}
+use Rattle.item_ring.specs.AreRings.{IsRing, AreRings, IsChain, IsFree, IsStocked}
+use Rattle.item_ring.specs.View.{View}
 use Rattle.item_ring.specs.Turns.{linked_as, unlinked}
 use Rattle.item_ring.proofs.Apart.{head_free, linked_free, loose_free, head_state, head_used, loose_used, linked_used, Belongs}
 use Rattle.item_ring.proofs.Counts.{few}
 use Rattle.item_ring.proofs.Links.{IsTiedIn, tied_in, links_keep, here_belongs, here_apart, ahead_apart}
-use Rattle.item_ring.proofs.Lists.{last_of, in_put_new, path_prev, without_cut, appended}
+use Rattle.item_ring.proofs.Lists.{last_of, in_put_new, without_cut}
 use Rattle.item_ring.proofs.Unlinks.{IsTakenOut, taken_out, unlinks_keep, prev_of_belongs}
 
 pub chain_same : (N N' : ℕ → ℕ) (first : ℕ) (js : List ℕ) → ((j : ℕ) → IsIn j js → N' j ≡ N j) → IsChain N first js → IsChain N' first js
@@ -49,14 +49,6 @@ module _ (v : Slots) (s : View) (first free spare_heads spare_members : ℕ) (ar
 
   pub ring_few : value_of v h ≤ v.len
   ring_few = subst (λ n. n ≤ v.len) (sym ring_is.counted) (few (list_in s.rings h) v.len ring_is.distinct (λ q i. linked_used v s are q (ring_is.linked q i)))
-
-  pub prev_is : (at : ℕ) (before behind : List ℕ) → list_in s.rings h ≡ before ++ at ∷ behind → prev_of v at ≡ last_of h before
-  prev_is at before behind e =
-      path_prev (next_of v) (prev_of v) h at before (behind ++ h ∷ [])
-      (subst (λ l. IsPath (next_of v) (prev_of v) h l) (ap (λ l. l ++ h ∷ []) e ∙ appended before (at ∷ behind) (h ∷ [])) ring_is.circle)
-
-  pub last_is : prev_of v h ≡ last_of h (list_in s.rings h)
-  last_is = path_prev (next_of v) (prev_of v) h h (list_in s.rings h) [] ring_is.circle
 
   module _ (m : ℕ) (loose : IsIn m s.loose) (here : ℕ) (fore aft : List ℕ) (split : list_in s.rings h ≡ fore ++ aft) (at : here ≡ last_of h fore) where
     abbrev ml : state_of v m ≡ Loose
@@ -125,9 +117,6 @@ module _ (v : Slots) (s : View) (first free spare_heads spare_members : ℕ) (ar
 
     m_linked : state_of v m ≡ Linked
     m_linked = whole.linked m (in_put_new m fore aft)
-
-    m_mine : ring_of v m ≡ h
-    m_mine = whole.mine m (in_put_new m fore aft)
 
     prev_belongs : Belongs v h (prev_of v m)
     prev_belongs = prev_of_belongs v w s m h count fore aft are hh split out counted

@@ -7,7 +7,7 @@ use Rattle.item_ring.specs.declared.block.State.TheVariants.{Loose, Linked, Head
 use Rattle.item_ring.specs.Nodes.{Slots, cell_at, next_of, prev_of, ring_of, value_of, state_of, Edits, Spliced}
 use Rattle.item_ring.specs.RingLists.{IsIn, without, list_in}
 use Rattle.item_ring.specs.AreRings.{is_head, is_member, IsPath, IsRing, AreRings}
-use Rattle.item_ring.specs.Seen.{View}
+use Rattle.item_ring.specs.View.{View}
 use Rattle.item_ring.proofs.Apart.{head_loose, head_linked, linked_loose, loose_free, list_new, list_else, Belongs, strangers, not_strange, in_ring}
 use Rattle.item_ring.proofs.Edits.{same_field}
 use Rattle.item_ring.proofs.Lists.{in_left, in_right, in_either, in_put, in_put_new, in_put_either, distinct_put, distinct_left, distinct_right, distinct_between, distinct_push, length_put, in_without, still_in, last_of, first_of, last_in, first_in, path_left, path_next, path_join, path_behind, path_same, path_inner, path_from, tail_to, tail_is, appended}

@@ -1,7 +1,8 @@
 -- Lists without repetition, and paths of links along them.
-use Rattle.std.proofs.Common.{◌≡◌, ℕ, ◌+◌, cond, List, [], ◌∷◌, ◌++◌, length, refl, sym, ap, subst, ◌∙◌, ◌⊎◌, inl, inr, arith}
+use Rattle.std.proofs.Common.{◌≡◌, ℕ, ◌+◌, Bool, cond, List, [], ◌∷◌, ◌++◌, length, Some, refl, sym, ap, subst, ◌∙◌, ◌⊎◌, inl, inr, arith}
 use Rattle.std.proofs.lemmas.Bool.Decides.{eqb_tells}
-use Rattle.item_ring.specs.RingLists.{IsIn, IsDistinct, without, with_after, with_before}
+use Rattle.item_ring.specs.RingLists.{IsIn, IsDistinct, back, without, with_after, with_before}
+use Rattle.item_ring.specs.Turns.{with_behind}
 use Rattle.item_ring.specs.AreRings.{IsPath}
 
 pub in_left : (m : ℕ) (xs ys : List ℕ) → IsIn m xs → IsIn m (xs ++ ys)
@@ -115,6 +116,28 @@ before_cut at m (x ∷ xs) ys d = elim (eqb_tells x at) [
   | inl t ↦ absurd (d.0 (subst (λ k. IsIn k (xs ++ at ∷ ys)) (sym t.1) (in_put_new at xs ys)))
   | inr f ↦ ap (λ b. cond b (m ∷ x ∷ (xs ++ at ∷ ys)) (x ∷ with_before at m (xs ++ at ∷ ys))) f.0 ∙ ap (λ l. x ∷ l) (before_cut at m xs ys d.1)
 ]
+
+-- the last of a list stands in it
+last_some : (y : ℕ) (ys : List ℕ) → (z : ℕ) × (back (y ∷ ys) ≡ Some z) × IsIn z (y ∷ ys)
+last_some y [] = (y, refl, inl refl)
+last_some y (x ∷ xs) = let l = last_some x xs in (l.0, l.1, inr l.2)
+
+pub back_in : (xs : List ℕ) (z : ℕ) → back xs ≡ Some z → IsIn z xs
+back_in [] z e = cc
+back_in (x ∷ []) z e = let same : z ≡ x = cc in inl same
+back_in (x ∷ y ∷ ys) z e = inr (back_in (y ∷ ys) z e)
+
+-- right behind the last of a list is right before what follows
+pub behind_back : (m : ℕ) (xs ys : List ℕ) → IsDistinct (xs ++ ys) → with_behind (back xs) m (xs ++ ys) ≡ xs ++ m ∷ ys
+behind_back m [] ys d = refl
+behind_back m (x ∷ []) ys d = after_cut x m [] ys d
+behind_back m (x ∷ y ∷ xs) ys d =
+    let l = last_some y xs in
+    let rest = y ∷ (xs ++ ys) in
+    let apart : x ≡ l.0 → ⊥ = λ e. d.0 (in_left x (y ∷ xs) ys (subst (λ k. IsIn k (y ∷ xs)) (sym e) l.2)) in
+    let goes : Bool → List ℕ = λ b. cond b (x ∷ m ∷ rest) (x ∷ with_after l.0 m rest) in
+    let on : with_after l.0 m (x ∷ rest) ≡ x ∷ with_after l.0 m rest = elim (eqb_tells x l.0) [ inl t ↦ absurd (apart t.1) | inr f ↦ ap goes f.0 ] in
+    ap (λ o. with_behind o m (x ∷ rest)) l.1 ∙ on ∙ ap (λ o. x ∷ with_behind o m rest) (sym l.1) ∙ ap (λ l. x ∷ l) (behind_back m (y ∷ xs) ys d.1)
 
 -- the last of p and the list
 abbrev pub last_of : ℕ → List ℕ → ℕ

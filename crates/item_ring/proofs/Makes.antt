@@ -10,12 +10,12 @@ use Rattle.item_ring.specs.declared.block.Cell.{Cell}
 use Rattle.item_ring.specs.declared.block.State.{State}
 use Rattle.item_ring.specs.declared.block.State.TheVariants.{Free, Loose, Linked, Head}
 use Rattle.item_ring.specs.declared.rings.Rings.TheInside.{Inside}
-use Rattle.item_ring.specs.declared.seen.Seen.{Seen}
+use Rattle.leda_base.specs.declared.Seen.{Seen}
 use Rattle.item_ring.specs.Nodes.{Slots, cell_at, next_of, ring_of, value_of, state_of, Edits}
 use Rattle.item_ring.specs.RingLists.{IsIn, list_in}
 use Rattle.item_ring.specs.AreRings.{is_head, is_member, tail, IsRing, AreRings, IsChain, IsFree, IsStocked, Claimed}
 use Rattle.item_ring.specs.RingsHold.{RingsHold}
-use Rattle.item_ring.specs.Seen.{View}
+use Rattle.item_ring.specs.View.{View}
 use Rattle.item_ring.specs.Turns.{headed, membered, member_gone, head_gone}
 use Rattle.item_ring.proofs.Apart.{head_free, loose_free, linked_loose, head_loose, head_linked, list_new, head_state, head_used, loose_used}
 use Rattle.item_ring.proofs.Holds.{chain_same}
@@ -77,9 +77,6 @@ module _ (a : Inside) (inv : RingsHold a) (g : Slots) (gr : IsGrown a.nodes g) w
     };
   }
 
-  pub claim_room : (sh sm : ℕ) → sh + sm + g.len + 1 ≤ a.free + g.room → (IsFree g a.first_free a.free s.free × (g.len < a.free + g.room)) × ((g.len ≤ g.room) × (g.room ≤ 2 ^ 26))
-  claim_room sh sm fits = ((fr, omega arith), (st.within, st.small))
-
   module _ (w : Slots) (next after slot value : ℕ) (state : State) (cl : Claimed g w next a.free after s.free slot value state) where
     free_before : state_of g slot ≡ Free
     free_before = was_free g w s s a.first_free a.free a.free slot value state are fr next after cl
@@ -102,7 +99,7 @@ module _ (a : Inside) (inv : RingsHold a) (g : Slots) (gr : IsGrown a.nodes g) w
     no_tag : map.get s.tags slot ≡ None
     no_tag = are.tags slot ∙ ap (λ t. cond (is_member t) (Some (value_of g slot)) None) free_before
 
-  module _ (w : Slots) (next after slot left : ℕ) (cl : Claimed g w next a.free after s.free slot 0 Head) (seen : Seen) (turned : seen.view ≡ headed s slot)
+  module _ (w : Slots) (next after slot left : ℕ) (cl : Claimed g w next a.free after s.free slot 0 Head) (seen : Seen View) (turned : seen.view ≡ headed s slot)
       (fits : left + a.spare_members + g.len + 1 ≤ a.free + g.room) (few : map.len s.rings + 1 + left ≤ 16777215) where
     abbrev c : Cell
     c = record { next = slot; prev = slot; ring = slot; value = 0; state = Head }
@@ -153,7 +150,7 @@ module _ (a : Inside) (inv : RingsHold a) (g : Slots) (gr : IsGrown a.nodes g) w
           stock = subst (λ x. IsStocked w x after left a.spare_members) (sym turned) stock;
         }
 
-  module _ (w : Slots) (next after slot left tag : ℕ) (cl : Claimed g w next a.free after s.free slot tag Loose) (seen : Seen) (turned : seen.view ≡ membered s slot tag)
+  module _ (w : Slots) (next after slot left tag : ℕ) (cl : Claimed g w next a.free after s.free slot tag Loose) (seen : Seen View) (turned : seen.view ≡ membered s slot tag)
       (fits : a.spare_heads + left + g.len + 1 ≤ a.free + g.room) (few : map.len s.tags + 1 + left ≤ 16777215) where
     abbrev d : Cell
     d = record { next = slot; prev = slot; ring = slot; value = tag; state = Loose }
@@ -228,7 +225,7 @@ next_used v first free j next js fr used is = elim (eqb_tells free 0) [
 ]
 
 module _ (a : Inside) (inv : RingsHold a) (w : Slots) (len : w.len ≡ a.nodes.len) (j next : ℕ) (is : next ≡ cond (eqb a.free 0) j a.first_free)
-    (ed : Edits a.nodes w j (record { next = next; prev = j; ring = j; value = 0; state = Free })) (seen : Seen) where
+    (ed : Edits a.nodes w j (record { next = next; prev = j; ring = j; value = 0; state = Free })) (seen : Seen View) where
   abbrev z : View
   z = a.seen.view
 

@@ -11,7 +11,7 @@ use Rattle.item_ring.specs.Row.{Row}
 use Rattle.item_ring.specs.Nodes.{Slots, node_at, cell_of, cell_at, next_of, prev_of, ring_of, value_of, state_of, blank, Edits}
 use Rattle.item_ring.specs.RingLists.{IsIn, list_in}
 use Rattle.item_ring.specs.AreRings.{is_head, is_member, IsRing, AreRings, IsChain, IsFree, IsStocked, Claimed}
-use Rattle.item_ring.specs.Seen.{View, nothing_seen}
+use Rattle.item_ring.specs.View.{View, nothing_seen}
 use Rattle.item_ring.proofs.Apart.{head_free, linked_free, loose_free}
 use Rattle.item_ring.proofs.Holds.{chain_same}
 use Rattle.item_ring.proofs.Lists.{path_same}

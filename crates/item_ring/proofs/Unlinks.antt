@@ -7,7 +7,7 @@ use Rattle.item_ring.specs.declared.block.State.TheVariants.{Loose, Linked, Head
 use Rattle.item_ring.specs.Nodes.{Slots, cell_at, next_of, prev_of, ring_of, value_of, state_of, Edits, Unspliced}
 use Rattle.item_ring.specs.RingLists.{IsIn, IsDistinct, list_in}
 use Rattle.item_ring.specs.AreRings.{is_head, is_member, IsPath, IsRing, AreRings}
-use Rattle.item_ring.specs.Seen.{View}
+use Rattle.item_ring.specs.View.{View}
 use Rattle.item_ring.proofs.Apart.{head_loose, head_linked, linked_loose, linked_free, list_new, list_else, Belongs, strangers, in_ring}
 use Rattle.item_ring.proofs.Edits.{same_field}
 use Rattle.item_ring.proofs.Lists.{in_left, in_right, in_put, in_put_new, in_put_either, out_apart, distinct_out, distinct_left, distinct_right, distinct_between, distinct_push, length_put, last_of, first_of, last_in, first_in, path_left, path_right, path_prev, path_over, path_same, path_inner, rest_same, tail_to, tail_is, appended}

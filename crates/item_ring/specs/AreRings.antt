@@ -5,7 +5,7 @@ use Rattle.item_ring.specs.declared.block.State.{State}
 use Rattle.item_ring.specs.declared.block.State.TheVariants.{Free, Loose, Linked, Head}
 use Rattle.item_ring.specs.Nodes.{Slots, Edits, next_of, prev_of, ring_of, value_of, state_of}
 use Rattle.item_ring.specs.RingLists.{IsIn, IsDistinct, list_in}
-use Rattle.item_ring.specs.Seen.{View}
+use Rattle.item_ring.specs.View.{View}
 
 abbrev pub is_head : State → Bool
 is_head Free = false

@@ -6,5 +6,5 @@ pub mod Nodes
 pub mod RingLists
 pub mod RingsHold
 pub mod Row
-pub mod Seen
 pub mod Turns
+pub mod View

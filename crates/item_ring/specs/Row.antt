@@ -10,10 +10,6 @@ pub record Row : Type 0 where
   pub at : Ptr
   pub slots : List (Option Node)
 
--- the bytes that a node takes
-unfoldable pub node_size : ℕ
-node_size = type_size the_row
-
 -- the address of the place at the index
 unfoldable pub place_of : Row → ℕ → Ptr
 place_of row index = row.at +ₚ (index * type_size the_row)

@@ -1,24 +1,21 @@
 -- What is seen after a call.
-use Rattle.std.specs.Prelude.{ℕ, List, [], ◌∷◌, ◌++◌}
+use Rattle.std.specs.Prelude.{ℕ, cond, ◌==◌, List, [], ◌∷◌, Option, Some, None}
 use Rattle.std.specs.FinMap as map
-use Rattle.item_ring.specs.RingLists.{list_in, without, with_after, with_before}
+use Rattle.item_ring.specs.RingLists.{list_in, without, with_after}
 use Rattle.item_ring.specs.AreRings.{tail}
-use Rattle.item_ring.specs.Seen.{View}
+use Rattle.item_ring.specs.View.{View}
 
 abbrev pub linked_as : View → ℕ → ℕ → List ℕ → View
 linked_as s h m xs = record s { rings = map.insert s.rings h xs; loose = without m s.loose }
 
-abbrev pub pushed_back : View → ℕ → ℕ → View
-pushed_back s h m = linked_as s h m (list_in s.rings h ++ m ∷ [])
+-- the list with m right behind a member of it, and before all others where that is none
+abbrev pub with_behind : Option ℕ → ℕ → List ℕ → List ℕ
+with_behind None m xs = m ∷ xs
+with_behind (Some at) m xs = with_after at m xs
 
-abbrev pub pushed_front : View → ℕ → ℕ → View
-pushed_front s h m = linked_as s h m (m ∷ list_in s.rings h)
-
-abbrev pub inserted_after : View → ℕ → ℕ → ℕ → View
-inserted_after s h m at = linked_as s h m (with_after at m (list_in s.rings h))
-
-abbrev pub inserted_before : View → ℕ → ℕ → ℕ → View
-inserted_before s h m at = linked_as s h m (with_before at m (list_in s.rings h))
+-- m goes right behind the slot `here`, the head's or a member's
+abbrev pub tied : View → ℕ → ℕ → ℕ → View
+tied s h m here = let xs = list_in s.rings h in linked_as s h m (cond (here == h) (m ∷ xs) (with_after here m xs))
 
 abbrev pub unlinked : View → ℕ → ℕ → View
 unlinked s h m = record s { rings = map.insert s.rings h (without m (list_in s.rings h)); loose = m ∷ s.loose }

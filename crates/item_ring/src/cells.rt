@@ -1,4 +1,5 @@
-//! A block of raw memory: a row of places, each empty or holding a value. Only this file touches a pointer.
+//! A block of raw memory: a row of places, each empty or holding a value. Only this file touches a
+//! pointer.
 ghost use Rattle.std.specs.Prelude.{◌≡◌, ℕ, ◌<◌, ◌*◌, List, Option, Some, None, length, replicate, get_or, slice_set, IfOk, ⊤};
 ghost use Rattle.std.specs.Mem.{type_size};
 ghost use Rattle.std.specs.Vec.Ownership.{FitsInBlock};
@@ -94,7 +95,8 @@ impl<T> Cells<T> {
         }
     }
 
-    /// Follows the link to a value. The index, the place that the link leads to, serves the proof alone.
+    /// Follows the link to a value. The index, the place that the link leads to, serves the proof
+    /// alone.
     pub(crate) fn get(&self, link: Link, index: usize) -> &T
         requires { (link.at ≡ self.now.at +ₚ (index * type_size T.row)) × IsFilled self.now.slots index }
         ensures { get_or self.now.slots index None ≡ Some result.now }

@@ -1,13 +1,16 @@
 //! Heads and members: each head stands for a ring of members.
-ghost use Rattle.std.specs.Prelude.{◌≡◌, cond, ◌==◌, false, ◌⊎◌, ◌≤◌, true, ℕ, ◌<◌, ◌↔◌, ◌+◌, List, [], ◌∷◌, ◌++◌, Some, None, length, min, ◌^◌, ◌-◌, IsOk, IfOk, IfErr, OnErr};
+ghost use Rattle.std.specs.Prelude.{◌≡◌, cond, ◌==◌, false, ◌⊎◌, ◌≤◌, true, ℕ, ◌<◌, ◌↔◌, ◌+◌, List, [], ◌∷◌, ◌++◌, Some, None, length, min, ◌^◌, ◌-◌, IsOk, IfOk, IfErr, OnErr, unwrap_or};
+ghost use Rattle.std.specs.Option.{ForSome};
 ghost use Rattle.std.specs.FinMap as map;
 ghost use Rattle.item_ring.specs.RingLists.{IsIn, IsHead, IsLinked, IsLinkedIn, IsLoose, AreApart, StandsBetween, ring, front, back, unless_equal, without, with_after, with_before};
 ghost use Rattle.item_ring.specs.AreRings.{Claimed, IsFree};
 ghost use Rattle.item_ring.specs.Nodes.{cell_at};
+ghost use Rattle.item_ring.specs.Turns.{with_behind};
 
 use crate::block::State;
 use crate::nodes::Nodes;
-use crate::seen::Seen;
+use crate::seen::{RingView, show};
+use leda_base::Seen;
 use std::alloc::{AllocError, Global};
 use std::marker::Model;
 
@@ -60,7 +63,7 @@ pub struct Rings {
     free: u32,
     spare_heads: u32,
     spare_members: u32,
-    seen: Seen,
+    seen: Seen<RingView>,
     alloc: Global,
 }
 
@@ -124,11 +127,8 @@ impl Rings {
         ensures spare { (self.new.spare_heads ≡ self.old.spare_heads) × (self.new.spare_members ≡ self.old.spare_members) }
         ensures apart { AreApart self.new }
     {
-        let last = self.nodes.get(h.slot).prev;
-        let count = self.nodes.get(h.slot).value;
-        self.nodes.splice(last, m.slot, h.slot);
-        self.nodes.set_value(h.slot, count + 1);
-        self.seen.becomes(h.slot, m.slot, m.slot);
+        let last = self.last(h);
+        self.tie(h, last, m);
     }
 
     /// Puts the loose member before all others of the ring.
@@ -141,10 +141,7 @@ impl Rings {
         ensures spare { (self.new.spare_heads ≡ self.old.spare_heads) × (self.new.spare_members ≡ self.old.spare_members) }
         ensures apart { AreApart self.new }
     {
-        let count = self.nodes.get(h.slot).value;
-        self.nodes.splice(h.slot, m.slot, h.slot);
-        self.nodes.set_value(h.slot, count + 1);
-        self.seen.becomes(h.slot, m.slot, m.slot);
+        self.tie(h, None, m);
     }
 
     /// Puts the loose member right after `at`, which is linked.
@@ -157,11 +154,8 @@ impl Rings {
         ensures spare { (self.new.spare_heads ≡ self.old.spare_heads) × (self.new.spare_members ≡ self.old.spare_members) }
         ensures apart { AreApart self.new }
     {
-        let head = self.nodes.get(at.slot).ring;
-        let count = self.nodes.get(head).value;
-        self.nodes.splice(at.slot, m.slot, head);
-        self.nodes.set_value(head, count + 1);
-        self.seen.becomes(head, m.slot, at.slot);
+        let h = self.head_of(at);
+        self.tie(h, Some(at), m);
     }
 
     /// Puts the loose member right before `at`, which is linked.
@@ -174,12 +168,28 @@ impl Rings {
         ensures spare { (self.new.spare_heads ≡ self.old.spare_heads) × (self.new.spare_members ≡ self.old.spare_members) }
         ensures apart { AreApart self.new }
     {
-        let head = self.nodes.get(at.slot).ring;
-        let before = self.nodes.get(at.slot).prev;
-        let count = self.nodes.get(head).value;
-        self.nodes.splice(before, m.slot, head);
-        self.nodes.set_value(head, count + 1);
-        self.seen.becomes(head, m.slot, at.slot);
+        let h = self.head_of(at);
+        let before = self.prev(at);
+        self.tie(h, before, m);
+    }
+
+    /// Ties the loose member in right behind `behind`, and before all others where that is none.
+    fn tie(&mut self, h: Head, behind: Option<Member>, m: Member)
+        requires head { IsHead self.old h }
+        requires member { IsLoose self.old m }
+        requires behind { ForSome behind (λ at. IsIn at (ring self.old h)) }
+        ensures rings { self.new.rings ≡ map.insert self.old.rings h (with_behind behind m (ring self.old h)) }
+        ensures loose { self.new.loose ≡ without m self.old.loose }
+        ensures tags { self.new.tags ≡ self.old.tags }
+        ensures spare { (self.new.spare_heads ≡ self.old.spare_heads)
+            × (self.new.spare_members ≡ self.old.spare_members) }
+        ensures apart { AreApart self.new }
+    {
+        let here = slot_behind(h, behind);
+        let count = self.nodes.get(h.slot).value;
+        self.nodes.splice(here, m.slot, h.slot);
+        self.nodes.set_value(h.slot, count + 1);
+        show(&mut self.seen, h.slot, m.slot, here);
     }
 
     /// Takes the member out of its ring. It is loose from here on.
@@ -195,7 +205,7 @@ impl Rings {
         let count = self.nodes.get(head).value;
         self.nodes.unsplice(m.slot);
         self.nodes.set_value(head, count - 1);
-        self.seen.becomes(head, m.slot, m.slot);
+        show(&mut self.seen, head, m.slot, m.slot);
     }
 
     /// The first member of the ring, and none exactly where it is empty.
@@ -292,7 +302,7 @@ impl Rings {
             0,
             State::Head,
         );
-        self.seen.becomes(slot, slot, 0);
+        show(&mut self.seen, slot, slot, 0);
         Ok(Head { slot })
     }
 
@@ -318,7 +328,7 @@ impl Rings {
             tag,
             State::Loose,
         );
-        self.seen.becomes(slot, slot, tag);
+        show(&mut self.seen, slot, slot, tag);
         Ok(Member { slot })
     }
 
@@ -336,7 +346,7 @@ impl Rings {
         self.first_free = m.slot;
         self.free += 1;
         self.spare_members += 1;
-        self.seen.becomes(m.slot, m.slot, 0);
+        show(&mut self.seen, m.slot, m.slot, 0);
     }
 
     /// Ends the head of an empty ring. Its place is spare from here on.
@@ -353,7 +363,7 @@ impl Rings {
         self.first_free = h.slot;
         self.free += 1;
         self.spare_heads += 1;
-        self.seen.becomes(h.slot, h.slot, 0);
+        show(&mut self.seen, h.slot, h.slot, 0);
     }
 
     /// Whether the member is linked into a ring. Else it is loose.
@@ -410,13 +420,23 @@ fn unless_head(slot: u32, head: u32) -> Option<Member>
     }
 }
 
+/// The slot of a member, or of the head where there is none.
+fn slot_behind(h: Head, behind: Option<Member>) -> u32
+    ensures { result ≡ unwrap_or behind h }
+{
+    match behind {
+        Some(at) => at.slot,
+        None => h.slot,
+    }
+}
+
 /// Takes a slot from the chain of free ones, or else the first that was never used, for a node
 /// that is its own neighbour.
 fn claim(
     nodes: &mut Nodes,
     first_free: &mut u32,
     free: &mut u32,
-    seen: &Seen,
+    seen: &Seen<RingView>,
     value: u32,
     state: State,
 ) -> u32

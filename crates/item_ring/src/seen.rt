@@ -1,31 +1,28 @@
-//! What contracts see of the rings. It takes no memory, and its methods do nothing at run time.
+//! What contracts see of the rings.
 ghost use Rattle.std.specs.Prelude.{◌≡◌};
-ghost use Rattle.std.specs.Borrow.{ftrue};
-ghost use Rattle.item_ring.specs.Seen.{View, view_code, nothing_seen};
+ghost use Rattle.item_ring.specs.View.{View};
 
-use std::marker::{Model, PhantomData};
+use leda_base::Seen;
+use std::marker::Model;
 
-/// A clause reads what is seen as `view`.
+/// The type of what is seen of the rings, `View`. No value of it is made.
 #[derive(Drop)]
-pub(crate) struct Seen {
-    mark: PhantomData<u8>,
-    pub(crate) ghost view: { View } by { view_code },
+pub(crate) struct RingView {}
+
+impl Model for RingView {
+    ghost use Rattle.item_ring.specs.View.{View, view_code, nothing_seen};
+
+    ghost Value = { View };
+
+    ghost coded = { view_code };
+
+    ghost view = { λ _. nothing_seen };
 }
 
-impl Model for Seen {
-    ghost also_owns = { λ _. ftrue };
-}
-
-impl Seen {
-    pub(crate) fn nothing() -> Seen
-        ensures { result.view ≡ nothing_seen }
-    {
-        Seen { mark: PhantomData }
-    }
-
-    /// From here on `to` is seen. The numbers are those that `to` may be made of.
-    pub(crate) fn becomes(&mut self, ring: u32, member: u32, other: u32)
-        ghost to: { View }
-        ensures { self.new.view ≡ to }
-    {}
+/// From here on `to` is seen. The numbers are those that `to` may be made of.
+pub(crate) fn show(seen: &mut Seen<RingView>, ring: u32, member: u32, other: u32)
+    ghost to: { View }
+    ensures { seen.new.view ≡ to }
+{
+    seen.becomes();
 }

@@ -55,7 +55,8 @@ fn begin(alloc: Global) -> Result<(Rings, Head, Member), RingRefusal>
     Ok((rings, h, mid))
 }
 
-/// At the front, at the back and behind `mid`, so many times. It gives the first three and the last three.
+/// At the front, at the back and behind `mid`, so many times. It gives the first three and the last
+/// three.
 fn spread(
     rings: &mut Rings,
     h: Head,

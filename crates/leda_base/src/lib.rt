@@ -5,8 +5,10 @@ mod memory;
 mod name;
 mod number;
 mod row;
+mod seen;
 
 pub use memory::NoMemory;
 pub use name::{ItemName, NAME_LIMIT};
 pub use number::{NumFault, put_i128, read_i64};
 pub use row::Row;
+pub use seen::Seen;

@@ -1,5 +1,5 @@
 use Rattle.std.proofs.Common.{◌≡◌, min, Some, None, set, refl, sym, ap, ◌∙◌, subst, inl, inr}
-use Rattle.item_pool.specs.Table.{slot_of, spare_of}
+use Rattle.item_pool.specs.Table.{slot_of}
 use Rattle.std.specs.FinMap as map
 use Rattle.item_pool.specs.declared.pool.Pool.TheInside.{Inside}
 use Rattle.item_pool.specs.declared.block.Cell.{Cell}
@@ -22,7 +22,7 @@ returns-in-Some-as_mut g c =
     let lt = live_within p.cells i f.0 f.1.1 in let k = c.get_mut-cell.result.now in
     let q : X → Inside X = λ w. record { cells = set p.cells i (with_value k w); table = p.table; first = p.first; free = p.free; live = p.live; made = p.made } in
     let cells : (w : X) → (q w).cells ≡ set p.cells i (with_value (cell_at p.cells i) w) = λ w. ap (λ (a : Cell X). set p.cells i (with_value a w)) c.get_mut-cell.ensures.value in
-    let room = min p.free (spare_of p.table) in
+    let room = min p.free p.table.sure in
     let is : (w : X) → contents (live_of (q w).cells) p.made room ≡ contents (map.insert c.args.self.now.live s w) c.args.self.now.made c.args.self.now.spare =
     λ w. ap (λ l. contents l p.made room) (write_live p (q w) c.self.invariant s i f.0 w e f.1.1 lt (cells w) refl refl refl refl refl) ∙ ap (λ (o : Contents X). contents (map.insert o.live s w) o.made o.spare) c.self.view_is in (
       λ j. inl (c.in-Some-as_mut.value.ghost_name, λ w. is w j),

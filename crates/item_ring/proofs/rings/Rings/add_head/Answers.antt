@@ -28,7 +28,7 @@ invariant_of-self-2 c =
     (free_low (map.len a.seen.view.rings) (map.len a.seen.view.tags) a.free a.nodes.len st.total) st.reserved e.more in
     let low = subst (λ x. map.len x.rings < 16777215) (sym c.self.view_is) c.requires in
     let few = few_more (map.len a.seen.view.rings) a.spare_heads c.in_ok-left.left left low st.few_heads in
-    head_holds a c.self.invariant g grown c.claim-slot.new.nodes c.claim-slot.new.first_free c.claim-slot.new.free c.claim-slot.result c.in_ok-left.left c.claim-slot.ensures c.becomes.new.self c.becomes.ensures fits few
+    head_holds a c.self.invariant g grown c.claim-slot.new.nodes c.claim-slot.new.first_free c.claim-slot.new.free c.claim-slot.result c.in_ok-left.left c.claim-slot.ensures c.show.new.seen c.show.ensures fits few
 
 pub returns-in_err-left-clause-apart : goal.returns-in_err-left-clause-apart
 returns-in_err-left-clause-apart c =
@@ -47,4 +47,4 @@ returns-clause-apart c =
     (free_low (map.len a.seen.view.rings) (map.len a.seen.view.tags) a.free a.nodes.len st.total) st.reserved e.more in
     let low = subst (λ x. map.len x.rings < 16777215) (sym c.self.view_is) c.requires in
     let few = few_more (map.len a.seen.view.rings) a.spare_heads c.in_ok-left.left left low st.few_heads in
-    apart_now _ (head_holds a c.self.invariant g grown c.claim-slot.new.nodes c.claim-slot.new.first_free c.claim-slot.new.free c.claim-slot.result c.in_ok-left.left c.claim-slot.ensures c.becomes.new.self c.becomes.ensures fits few)
+    apart_now _ (head_holds a c.self.invariant g grown c.claim-slot.new.nodes c.claim-slot.new.first_free c.claim-slot.new.free c.claim-slot.result c.in_ok-left.left c.claim-slot.ensures c.show.new.seen c.show.ensures fits few)

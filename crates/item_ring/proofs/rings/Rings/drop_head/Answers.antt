@@ -18,11 +18,11 @@ invariant_of-self c =
     let a = c.self.inside in
     let key = subst (λ k. IsHead (lists_of a) k) (sym c.h.view_is) (subst (λ x. IsHead x c.args.h) (sym c.self.view_is) c.requires.head) in
     let empty = subst (λ k. ring (lists_of a) k ≡ []) (sym c.h.view_is) (subst (λ x. ring x c.args.h ≡ []) (sym c.self.view_is) c.requires.empty) in
-    head_drop a c.self.invariant c.reset.new.self c.reset.ensures.len c.h.inside.slot c.next_free-next.result c.next_free-next.ensures c.reset.ensures.cell c.becomes.new.self key empty c.becomes.ensures
+    head_drop a c.self.invariant c.reset.new.self c.reset.ensures.len c.h.inside.slot c.next_free-next.result c.next_free-next.ensures c.reset.ensures.cell c.show.new.seen key empty c.show.ensures
 
 pub returns-clause-apart : goal.returns-clause-apart
 returns-clause-apart c =
     let a = c.self.inside in
     let key = subst (λ k. IsHead (lists_of a) k) (sym c.h.view_is) (subst (λ x. IsHead x c.args.h) (sym c.self.view_is) c.requires.head) in
     let empty = subst (λ k. ring (lists_of a) k ≡ []) (sym c.h.view_is) (subst (λ x. ring x c.args.h ≡ []) (sym c.self.view_is) c.requires.empty) in
-    apart_now _ (head_drop a c.self.invariant c.reset.new.self c.reset.ensures.len c.h.inside.slot c.next_free-next.result c.next_free-next.ensures c.reset.ensures.cell c.becomes.new.self key empty c.becomes.ensures)
+    apart_now _ (head_drop a c.self.invariant c.reset.new.self c.reset.ensures.len c.h.inside.slot c.next_free-next.result c.next_free-next.ensures c.reset.ensures.cell c.show.new.seen key empty c.show.ensures)

@@ -22,10 +22,10 @@ pub invariant_of-self : goal.invariant_of-self
 invariant_of-self c =
     let a = c.self.inside in
     let loose : IsIn c.m.inside.slot a.seen.view.loose = subst (λ k. IsIn k a.seen.view.loose) (sym c.m.view_is) (subst (λ x. IsLoose x c.args.m) (sym c.self.view_is) c.requires) in
-    member_drop a c.self.invariant c.reset.new.self c.reset.ensures.len c.m.inside.slot c.next_free-next.result c.next_free-next.ensures c.reset.ensures.cell c.becomes.new.self loose c.becomes.ensures
+    member_drop a c.self.invariant c.reset.new.self c.reset.ensures.len c.m.inside.slot c.next_free-next.result c.next_free-next.ensures c.reset.ensures.cell c.show.new.seen loose c.show.ensures
 
 pub returns-clause-apart : goal.returns-clause-apart
 returns-clause-apart c =
     let a = c.self.inside in
     let loose : IsIn c.m.inside.slot a.seen.view.loose = subst (λ k. IsIn k a.seen.view.loose) (sym c.m.view_is) (subst (λ x. IsLoose x c.args.m) (sym c.self.view_is) c.requires) in
-    apart_now _ (member_drop a c.self.invariant c.reset.new.self c.reset.ensures.len c.m.inside.slot c.next_free-next.result c.next_free-next.ensures c.reset.ensures.cell c.becomes.new.self loose c.becomes.ensures)
+    apart_now _ (member_drop a c.self.invariant c.reset.new.self c.reset.ensures.len c.m.inside.slot c.next_free-next.result c.next_free-next.ensures c.reset.ensures.cell c.show.new.seen loose c.show.ensures)

@@ -36,7 +36,7 @@ invariant_of-self c =
     let linked = is_linked a c.self.invariant c.m.inside.slot (subst (λ k. IsLinked (lists_of a) k) (sym c.m.view_is) (subst (λ x. IsLinked x c.args.m) (sym c.self.view_is) c.requires)) in
     let home = ap (λ (x : Cell). x.ring) c.get-head.ensures in
     let h = c.get-head.result.ring in
-    out_holds a c.self.invariant c.m.inside.slot linked h home c.unsplice.new.self c.set_value.new.self _ c.unsplice.ensures c.set_value.ensures.len c.set_value.ensures.cell (let some = subst (λ n. 0 < n) (sym (ap (λ (x : Cell). x.value) c.get-count.ensures)) (out_counted a c.self.invariant c.m.inside.slot linked h home) in let is = ap (λ (x : Cell). x.value) c.get-count.ensures in omega (arith, some, is)) c.becomes.new.self c.becomes.ensures
+    out_holds a c.self.invariant c.m.inside.slot linked h home c.unsplice.new.self c.set_value.new.self _ c.unsplice.ensures c.set_value.ensures.len c.set_value.ensures.cell (let some = subst (λ n. 0 < n) (sym (ap (λ (x : Cell). x.value) c.get-count.ensures)) (out_counted a c.self.invariant c.m.inside.slot linked h home) in let is = ap (λ (x : Cell). x.value) c.get-count.ensures in omega (arith, some, is)) c.show.new.seen c.show.ensures
 
 pub returns-clause-apart : goal.returns-clause-apart
 returns-clause-apart c =
@@ -44,7 +44,7 @@ returns-clause-apart c =
     let linked = is_linked a c.self.invariant c.m.inside.slot (subst (λ k. IsLinked (lists_of a) k) (sym c.m.view_is) (subst (λ x. IsLinked x c.args.m) (sym c.self.view_is) c.requires)) in
     let home = ap (λ (x : Cell). x.ring) c.get-head.ensures in
     let h = c.get-head.result.ring in
-    apart_now _ (out_holds a c.self.invariant c.m.inside.slot linked h home c.unsplice.new.self c.set_value.new.self _ c.unsplice.ensures c.set_value.ensures.len c.set_value.ensures.cell (let some = subst (λ n. 0 < n) (sym (ap (λ (x : Cell). x.value) c.get-count.ensures)) (out_counted a c.self.invariant c.m.inside.slot linked h home) in let is = ap (λ (x : Cell). x.value) c.get-count.ensures in omega (arith, some, is)) c.becomes.new.self c.becomes.ensures)
+    apart_now _ (out_holds a c.self.invariant c.m.inside.slot linked h home c.unsplice.new.self c.set_value.new.self _ c.unsplice.ensures c.set_value.ensures.len c.set_value.ensures.cell (let some = subst (λ n. 0 < n) (sym (ap (λ (x : Cell). x.value) c.get-count.ensures)) (out_counted a c.self.invariant c.m.inside.slot linked h home) in let is = ap (λ (x : Cell). x.value) c.get-count.ensures in omega (arith, some, is)) c.show.new.seen c.show.ensures)
 
 pub returns-clause-rings : goal.returns-clause-rings
 returns-clause-rings c = λ h l.
@@ -52,7 +52,7 @@ returns-clause-rings c = λ h l.
     let home = ap (λ (x : Cell). x.ring) c.get-head.ensures in
     let l' = subst (λ k. IsLinkedIn (lists_of a) h k) (sym c.m.view_is) (subst (λ x. IsLinkedIn x h c.args.m) (sym c.self.view_is) l) in
     let same = home ∙ home_is a c.self.invariant h c.m.inside.slot l' in
-    let is = ap (λ x. x.rings) c.becomes.ensures in
-    let at_h = subst (λ k. c.becomes.new.self.view.rings ≡ map.insert a.seen.view.rings k (without c.m.inside.slot (list_in a.seen.view.rings k))) same is in
-    let at_m = subst (λ k. c.becomes.new.self.view.rings ≡ map.insert a.seen.view.rings h (without k (list_in a.seen.view.rings h))) c.m.view_is at_h in
-    subst (λ x. c.becomes.new.self.view.rings ≡ map.insert x.rings h (without c.args.m (ring x h))) c.self.view_is at_m
+    let is = ap (λ x. x.rings) c.show.ensures in
+    let at_h = subst (λ k. c.show.new.seen.view.rings ≡ map.insert a.seen.view.rings k (without c.m.inside.slot (list_in a.seen.view.rings k))) same is in
+    let at_m = subst (λ k. c.show.new.seen.view.rings ≡ map.insert a.seen.view.rings h (without k (list_in a.seen.view.rings h))) c.m.view_is at_h in
+    subst (λ x. c.show.new.seen.view.rings ≡ map.insert x.rings h (without c.args.m (ring x h))) c.self.view_is at_m

@@ -1,5 +1,5 @@
 use Rattle.item_ring.specs.Turns.{unlinked}
 use Rattle.item_ring.proofs.rings.Rings.unlink.Given as goal
 
-abbrev pub ghost-becomes : goal.ghost-becomes
-ghost-becomes a = unlinked a.self.now.view a.ring a.member
+abbrev pub ghost-show : goal.ghost-show
+ghost-show a = unlinked a.seen.now.view a.ring a.member

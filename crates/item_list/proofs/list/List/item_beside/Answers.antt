@@ -1,0 +1,14 @@
+-- What stands beside an item on a side stands there in the chain, on a side of it.
+use Rattle.std.specs.Result.{MatchResult}
+use Rattle.item_list.specs.Items.{Items, Lacks}
+use Rattle.item_list.specs.Sides.{IsBeside}
+use Rattle.item_list.proofs.Readings.{outcomes, towards, lacks, is_beside}
+use Rattle.item_list.proofs.list.List.item_beside.Goals as goal
+
+pub returns : goal.returns
+returns g c =
+    let a = c.self.inside in
+    let s = c.args.it.serial in
+    let r = c.item_beside.result in
+    towards (λ side (l _ : Items g.row.E.Denot). MatchResult r (IsBeside side l s) (Lacks l s)) a.is_turned c.args.side _ a.chain a.chain c.args.self.now c.self.view_is c.of_chain.ensures
+    c.item_beside.ensures (outcomes r (is_beside a.chain s c.args.side) (lacks a.chain s))
