@@ -25,6 +25,7 @@ read_line-long line h = let long : nat_lt line_limit (length line)
     ≡ true = grind (arith, nat_tests) in rw long refl
 
 pub line_of-long : (line : List ℕ) → line_limit < length line → line_of line ≡ Err LongLine
+unfolding line_of
 line_of-long line h = ap meaning_of (read_line-long line h)
 
 -- a line means what the bytes that are kept of it mean

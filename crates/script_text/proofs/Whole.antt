@@ -289,6 +289,7 @@ pub fault_reads : (rows : List Entry) (line : List ℕ) (fault : LineRefusal)
     (answer : Result Line LineRefusal) → rows ≡ table
     → Err fault ≡ read_line rows line → IsErrAnd answer (λ refusal. refusal ≡ fault)
     → Reads (line_of line) answer
+unfolding line_of
 fault_reads rows line fault (Ok l) rows_are h is = absurd is
 fault_reads rows line fault (Err refusal) rows_are h is =
     by_fault refusal (read_is rows line (Err refusal) rows_are (ap Err is ∙ h))
@@ -305,6 +306,7 @@ pub lack_reads : (rows : List Entry) (line : List ℕ) (found : Option Reading) 
     → found ≡ Some reading
     → list_any has_bytes reading.args ≡ true → IsErrAnd answer (λ refusal. refusal ≡ NoMemory)
     → Reads (line_of line) answer
+unfolding line_of
 lack_reads rows line found reading (Ok l) rows_are h is bytes lack = absurd lack
 lack_reads rows line found reading (Err refusal) rows_are h is bytes lack = rw lack (record {
   said = record { word = reading.row.word; args = reading.args };

@@ -81,7 +81,7 @@ meaning_of (Ok (Some reading)) =
 meaning_of (Err fault) = Err fault
 
 -- what a line means
-abbrev pub line_of : List ℕ → Result Line LineRefusal
+unfoldable pub line_of : List ℕ → Result Line LineRefusal
 line_of line = meaning_of (read_line table line)
 
 -- a command whose arguments keep bytes of the line

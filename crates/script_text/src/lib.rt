@@ -11,7 +11,6 @@ pub use argument::Arg;
 pub use command::Command;
 pub use form::{Form, Kinds, Sight};
 pub use line::{LINE_LIMIT, Line, LineRefusal, parse_line};
-pub use table::Memory;
 pub use word::{EditWord, QueryWord, Word};
 
 mod argument;

@@ -53,6 +53,7 @@ impl From<NoMemory> for LineRefusal {
 ///
 /// The answer is what the line means, but for a command that finds no memory for the bytes of its
 /// arguments: that is [`LineRefusal::NoMemory`], which never hides another refusal.
+#[tactic(auto, unfolding(crate::specs::Line::line_of))]
 pub fn parse_line(alloc: Global, line: &[u8]) -> Result<Line, LineRefusal>
     ensures reads { Reads (line_of line.now) result }
     ensures whole { IfOk result IsWholeLine }

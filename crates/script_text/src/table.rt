@@ -10,7 +10,7 @@ use crate::word::{EditWord, QueryWord, Word};
 
 /// Whether running a command takes memory, so that it may be answered by want of memory.
 #[derive(Clone, Copy, Debug, PartialEq, Eq)]
-pub enum Memory {
+pub(crate) enum Memory {
     NotTaken,
     /// It may be taken. The reply fits the room that is there from the start.
     Taken,
