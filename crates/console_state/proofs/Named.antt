@@ -30,7 +30,7 @@ reach-named : (net : Net) (v w : ℕ) (answer : Reach) → IsReach net v w answe
 reach-named net v w (Walk arcs) walk = let P : ℕ → Type 0 = λ n. All (λ arc. arc < n) arcs in
     subst P (sym (length-numbers (length net.arcs))) (walk_within net v w arcs walk)
 reach-named net v w (Closed set) closed = let P : ℕ → Type 0 = λ n. All (λ node. node < n) set in
-    subst P (sym (length-numbers net.n)) closed.among
+    subst P (sym (length-numbers net.n)) closed.cut.nodes.among
 
 pub answer-named : (net : Net) (v w : ℕ) (answer : Reach) (named : Named) → named.nodes ≡ numbers net.n
     → named.edges ≡ numbers (length net.arcs) → named.answer ≡ answers.Reach answer → IsReach net v w answer
