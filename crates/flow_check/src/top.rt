@@ -14,8 +14,8 @@ use graph_defs::{Cond, FlowAnswer, Net, Verdict};
 use leda_base::{NoMemory, Row};
 use std::alloc::Global;
 
-/// Whether an answer on a maximum flow from `s` to `t` is right: yes where all conditions of a right
-/// answer hold, else the first condition that is broken, in their order, and its least place.
+/// Whether an answer on a maximum flow from `s` to `t` is right: yes where all conditions of a
+/// right answer hold, else the first condition that is broken, in their order, and its least place.
 ///
 /// It takes any answer, whatever its numbers are; the cut is read as a set. Sums are exact. In time
 /// and memory linear in the net and the answer.
@@ -33,7 +33,8 @@ pub fn check_flow(
     requires valid { IsValid net.now }
     requires s { s < net.now.n }
     requires t { t < net.now.n }
-    ensures { IfOk result (λ verdict. IsVerdict (FlowHolds net.now s t cap.now a.now) flow_order verdict) }
+    ensures { IfOk result (λ verdict.
+        IsVerdict (FlowHolds net.now s t cap.now a.now) flow_order verdict) }
 {
     if !is_in_range(net, a) {
         return Ok(broken(Cond::Range, 0));

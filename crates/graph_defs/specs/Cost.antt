@@ -23,26 +23,30 @@ cost_of net cost flow = cost_below cost flow (length net.arcs)
 abbrev pub reduced : Net → List ℤ → List ℤ → ℕ → ℤ
 reduced net cost pot arc = at cost arc +ℤ at pot (source net arc) -ℤ at pot (target net arc)
 
--- it is at least 0 where the flow is below its upper bound, and at most 0 where it is above its lower one
+-- it is at least 0 where the flow is below its upper bound, and at most 0 where it is above its
+-- lower one
 abbrev pub IsReducedAt : Net → List ℤ → List ℤ → List ℤ → List ℤ → List ℤ → ℕ → Type 0
 IsReducedAt net low high cost flow pot arc =
     (at flow arc <ℤ at high arc → pos 0 ≤ℤ reduced net cost pot arc)
     × (at low arc <ℤ at flow arc → reduced net cost pot arc ≤ℤ pos 0)
 
 abbrev pub AreReduced : Net → List ℤ → List ℤ → List ℤ → List ℤ → List ℤ → ℕ → Type 0
-AreReduced net low high cost flow pot k = (arc : ℕ) → arc < k → IsReducedAt net low high cost flow pot arc
+AreReduced net low high cost flow pot k = (arc : ℕ) → arc < k
+    → IsReducedAt net low high cost flow pot arc
 
 pub record IsReduced (net : Net) (low high cost flow pot : List ℤ) : Type 0 where
   pub nodes : length pot ≡ net.n
   pub arcs : AreReduced net low high cost flow pot (length net.arcs)
 
--- the supply of a set; the lower bounds of the arcs that enter it less the upper bounds of those that leave it
+-- the supply of a set; the lower bounds of the arcs that enter it less the upper bounds of those
+-- that leave it
 abbrev pub supply_of : Net → List ℤ → (ℕ → Bool) → ℤ
 supply_of net supply inside = sum_below (λ node. when (inside node) (at supply node)) net.n
 
 abbrev pub pressure_below : Net → List ℤ → List ℤ → (ℕ → Bool) → ℕ → ℤ
 pressure_below net low high inside k =
-    sum_below (λ arc. when (enters net inside arc) (at low arc) -ℤ when (leaves net inside arc) (at high arc)) k
+    sum_below (λ arc. when (enters net inside arc) (at low arc)
+    -ℤ when (leaves net inside arc) (at high arc)) k
 
 -- what of a set's supply and of what has to enter it can't leave it
 abbrev pub surplus : Net → List ℤ → List ℤ → List ℤ → (ℕ → Bool) → ℤ

@@ -9,9 +9,11 @@ use Rattle.graph_defs.specs.Set.{is_in, leaves, IsCut}
 use Rattle.graph_defs.specs.Sum.{sum_below, at, when}
 use Rattle.graph_defs.specs.Verdict.{AllHold}
 
--- what an arc takes from a node: its flow at its source, less its flow at its target, so nothing at a loop
+-- what an arc takes from a node: its flow at its source, less its flow at its target, so nothing at
+-- a loop
 abbrev pub share : Net → List ℤ → ℕ → ℕ → ℤ
-share net flow node arc = when (source net arc == node) (at flow arc) -ℤ when (target net arc == node) (at flow arc)
+share net flow node arc =
+    when (source net arc == node) (at flow arc) -ℤ when (target net arc == node) (at flow arc)
 
 -- what leaves a node less what enters it, by the arcs below k and by all
 abbrev pub outflow_below : Net → List ℤ → ℕ → ℕ → ℤ
@@ -22,9 +24,11 @@ outflow net flow node = outflow_below net flow node (length net.arcs)
 
 -- the flows of the arcs below k are within their bounds
 abbrev pub AreWithin : List ℤ → List ℤ → List ℤ → ℕ → Type 0
-AreWithin low high flow k = (arc : ℕ) → arc < k → (at low arc ≤ℤ at flow arc) × (at flow arc ≤ℤ at high arc)
+AreWithin low high flow k = (arc : ℕ) → arc < k → (at low arc ≤ℤ at flow arc)
+    × (at flow arc ≤ℤ at high arc)
 
--- a flow from s to t: from 0 to the capacity on each arc, and at every other node as much enters as leaves
+-- a flow from s to t: from 0 to the capacity on each arc, and at every other node as much enters as
+-- leaves
 pub record IsFlow (net : Net) (s t : ℕ) (cap flow : List ℤ) : Type 0 where
   pub long : length flow ≡ length net.arcs
   pub bounds : AreWithin [] cap flow (length net.arcs)
@@ -55,7 +59,8 @@ pub record IsFlowAnswer (net : Net) (s t : ℕ) (cap : List ℤ) (a : FlowAnswer
 abbrev pub CutsBoundFlows : Type 0
 CutsBoundFlows =
     (net : Net) (s t : ℕ) (cap flow : List ℤ) (cut : List ℕ) → IsValid net → s < net.n
-    → IsFlow net s t cap flow → IsCut net.n s t cut → outflow net flow s ≤ℤ capacity net cap (is_in cut)
+    → IsFlow net s t cap flow → IsCut net.n s t cut
+    → outflow net flow s ≤ℤ capacity net cap (is_in cut)
 
 -- ---- the conditions of a checker, in their order, each at a place; the cut is read as a set
 
@@ -72,9 +77,11 @@ flow_order = cond.Range ∷ cond.Bounds ∷ cond.Balance ∷ cond.Cut ∷ cond.V
 abbrev pub FlowHolds : Net → ℕ → ℕ → List ℤ → FlowAnswer → Cond → ℕ → Type 0
 FlowHolds net s t cap a cond.Range place = IsFlowInRange net a
 FlowHolds net s t cap a cond.Bounds arc = arc < length net.arcs → IsWithinAt [] cap a.flow arc
-FlowHolds net s t cap a cond.Balance node = node < net.n → node ≢ s → node ≢ t → outflow net a.flow node ≡ pos 0
+FlowHolds net s t cap a cond.Balance node = node < net.n → node ≢ s → node ≢ t
+    → outflow net a.flow node ≡ pos 0
 FlowHolds net s t cap a cond.Cut place = (is_in a.cut s ≡ true) × (is_in a.cut t ≡ false)
-FlowHolds net s t cap a cond.Value place = (outflow net a.flow s ≡ a.value) × (capacity net cap (is_in a.cut) ≡ a.value)
+FlowHolds net s t cap a cond.Value place = (outflow net a.flow s ≡ a.value)
+    × (capacity net cap (is_in a.cut) ≡ a.value)
 FlowHolds net s t cap a other place = ⊥
 
 -- a checker's yes excludes a flow of a greater value

@@ -19,19 +19,24 @@ abbrev pub degree : Net → ℕ → List ℕ → ℕ
 degree net node [] = 0
 degree net node (arc ∷ arcs) = cond (is_end net node arc) 1 0 + degree net node arcs
 
--- arcs without loops, no two of which share an end; one that is listed twice shares both with itself
+-- arcs without loops, no two of which share an end; one that is listed twice shares both with
+-- itself
 pub record IsMatching (net : Net) (edges : List ℕ) : Type 0 where
   pub among : All (λ edge. edge < length net.arcs) edges
   pub loops : All (λ edge. source net edge ≢ target net edge) edges
   pub apart : (node : ℕ) → degree net node edges ≤ 1
 
--- an arc is covered by labels of the nodes: it is a loop, an end has the label 1, or both have one same later label
+-- an arc is covered by labels of the nodes: it is a loop, an end has the label 1, or both have one
+-- same later label
 abbrev pub covers : List ℕ → Ends → Bool
 covers labels arc =
     ((arc.0 == arc.1) || (slice_index labels arc.0 == 1))
-    || ((slice_index labels arc.1 == 1) || ((slice_index labels arc.0 == slice_index labels arc.1) && nat_le 2 (slice_index labels arc.0)))
+    || ((slice_index labels arc.1 == 1)
+    || ((slice_index labels arc.0 == slice_index labels arc.1)
+    && nat_le 2 (slice_index labels arc.0)))
 
--- an odd-set cover (J. Edmonds, Paths, trees, and flowers, 1965): a label for each node, such that every arc is covered
+-- an odd-set cover (J. Edmonds, Paths, trees, and flowers, 1965): a label for each node, such that
+-- every arc is covered
 pub record IsOddSetCover (net : Net) (labels : List ℕ) : Type 0 where
   pub long : length labels ≡ net.n
   pub all : All (λ (arc : Ends). covers labels arc ≡ true) net.arcs
@@ -59,7 +64,8 @@ pub record IsMatchAnswer (net : Net) (a : MatchAnswer) : Type 0 where
 
 abbrev pub CoversBoundMatchings : Type 0
 CoversBoundMatchings =
-    (net : Net) (edges labels : List ℕ) → IsValid net → IsMatching net edges → IsOddSetCover net labels
+    (net : Net) (edges labels : List ℕ) → IsValid net → IsMatching net edges
+    → IsOddSetCover net labels
     → length edges ≤ cover_size labels
 
 -- ---- the conditions of a checker, in their order, each at a place
@@ -75,12 +81,14 @@ abbrev pub MatchHolds : Net → MatchAnswer → Cond → ℕ → Type 0
 MatchHolds net a cond.Range place = IsMatchInRange net a
 MatchHolds net a cond.SelfLoop arc = 1 ≤ times arc a.edges → source net arc ≢ target net arc
 MatchHolds net a cond.Shared node = degree net node a.edges ≤ 1
-MatchHolds net a cond.Label arc = arc < length net.arcs → covers a.cover (source net arc, target net arc) ≡ true
+MatchHolds net a cond.Label arc = arc < length net.arcs
+    → covers a.cover (source net arc, target net arc) ≡ true
 MatchHolds net a cond.Size place = length a.edges ≡ cover_size a.cover
 MatchHolds net a other place = ⊥
 
 -- a checker's yes excludes a larger matching
 abbrev pub YesGivesLargest : Type 0
 YesGivesLargest =
-    (net : Net) (a : MatchAnswer) (others : List ℕ) → IsValid net → AllHold (MatchHolds net a) match_order
+    (net : Net) (a : MatchAnswer) (others : List ℕ) → IsValid net
+    → AllHold (MatchHolds net a) match_order
     → IsMatching net others → length others ≤ length a.edges

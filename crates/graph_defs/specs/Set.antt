@@ -1,4 +1,5 @@
--- Sets of nodes: lists in the order of the nodes, with a test that computes; the arcs that leave or enter a set; cuts.
+-- Sets of nodes: lists in the order of the nodes, with a test that computes; the arcs that leave or
+-- enter a set; cuts.
 use Rattle.std.specs.Prelude.{◌≡◌, ℕ, ◌<◌, Bool, true, false, not, ◌&&◌, ◌==◌, List, All}
 use Rattle.std.specs.List.{list_any}
 use Rattle.std.specs.List.Sorted.{IsStrictlyIncreasing}

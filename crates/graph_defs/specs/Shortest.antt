@@ -30,7 +30,8 @@ pub record IsLeastWeight (net : Net) (s : ℕ) (cost : List ℤ) (v : ℕ) (d : 
 
 -- for every integer some walk from s to v weighs less
 abbrev pub HasNoLeastWeight : Net → ℕ → List ℤ → ℕ → Type 0
-HasNoLeastWeight net s cost v = (z : ℤ) → (walk : List ℕ) × IsWalk net s v walk × (weight cost walk <ℤ z)
+HasNoLeastWeight net s cost v = (z : ℤ) → (walk : List ℕ) × IsWalk net s v walk
+    × (weight cost walk <ℤ z)
 
 -- no walk leads from s to v
 abbrev pub IsUnreached : Net → ℕ → ℕ → Type 0
@@ -113,7 +114,8 @@ pub record IsLowSource (s : ℕ) (a : SpAnswer) : Type 0 where
 abbrev pub IsSource : ℕ → SpAnswer → Type 0
 IsSource s a = IsFirstFinite s a ⊎ IsLowSource s a
 
--- the finite node at place k is reached by an arc from place j before it, and the arc's cost is the difference
+-- the finite node at place k is reached by an arc from place j before it, and the arc's cost is the
+-- difference
 pub record IsTightBy (net : Net) (cost : List ℤ) (a : SpAnswer) (k arc j : ℕ) : Type 0 where
   pub pred : (finite_at a k).pred ≡ Some arc
   pub to : target net arc ≡ (finite_at a k).node
@@ -123,10 +125,12 @@ pub record IsTightBy (net : Net) (cost : List ℤ) (a : SpAnswer) (k arc j : ℕ
 
 abbrev pub IsTight : Net → List ℤ → SpAnswer → ℕ → Type 0
 IsTight net cost a v =
-    (k : ℕ) → 0 < k → k < length a.finite → (finite_at a k).node ≡ v → (arc : ℕ) × (j : ℕ) × IsTightBy net cost a k arc j
+    (k : ℕ) → 0 < k → k < length a.finite → (finite_at a k).node ≡ v → (arc : ℕ) × (j : ℕ)
+    × IsTightBy net cost a k arc j
 
 -- a seed is a walk from the source or a finite node to v, and a closed walk of negative weight at v
-pub record IsSeedAt (net : Net) (s : ℕ) (cost : List ℤ) (a : SpAnswer) (seed : Seed) (v : ℕ) : Type 0 where
+pub record IsSeedAt (net : Net) (s : ℕ) (cost : List ℤ) (a : SpAnswer) (seed : Seed)
+    (v : ℕ) : Type 0 where
   pub start : (seed.start ≡ s) ⊎ IsFinite a seed.start
   pub walk : IsWalk net seed.start v seed.walk
   pub cycle : IsWalk net v v seed.cycle
@@ -135,10 +139,12 @@ pub record IsSeedAt (net : Net) (s : ℕ) (cost : List ℤ) (a : SpAnswer) (seed
 abbrev pub IsSeed : Net → ℕ → List ℤ → SpAnswer → ℕ → Type 0
 IsSeed net s cost a i = (v : ℕ) × IsSeedAt net s cost a (seed_at a i) v
 
--- the low node v at place k lies on the closed walk of its seed, or its arc leads to it from a low node before it
+-- the low node v at place k lies on the closed walk of its seed, or its arc leads to it from a low
+-- node before it
 abbrev pub HasReason : Net → SpAnswer → ℕ → ℕ → Why → Type 0
 HasReason net a k v (why.Seed i) =
-    (t : ℕ) × (t < length (seed_at a i).cycle) × (source net (slice_index (seed_at a i).cycle t) ≡ v)
+    (t : ℕ) × (t < length (seed_at a i).cycle)
+    × (source net (slice_index (seed_at a i).cycle t) ≡ v)
 HasReason net a k v (why.Arc arc) =
     (j : ℕ) × (j < k) × (source net arc ≡ (low_at a j).node) × (target net arc ≡ v)
 
@@ -164,7 +170,8 @@ pub record StaysWithin (net : Net) (a : SpAnswer) (arc : ℕ) : Type 0 where
 -- the conditions in the order in which a checker tests them, and when each holds at a place
 abbrev pub sp_order : List Cond
 sp_order =
-    cond.Range ∷ cond.Once ∷ cond.Source ∷ cond.TightNode ∷ cond.Seed ∷ cond.Low ∷ cond.Shorter ∷ cond.Leaves ∷ []
+    cond.Range ∷ cond.Once ∷ cond.Source ∷ cond.TightNode ∷ cond.Seed ∷ cond.Low ∷ cond.Shorter
+    ∷ cond.Leaves ∷ []
 
 abbrev pub SpHolds : Net → ℕ → List ℤ → SpAnswer → Cond → ℕ → Type 0
 SpHolds net s cost a cond.Range place = IsInRange net a
@@ -196,7 +203,8 @@ pub record IsSpAnswer (net : Net) (s : ℕ) (cost : List ℤ) (a : SpAnswer) : T
 -- ---- what it shows, by all walks
 
 pub record GivesLeastWeights (net : Net) (s : ℕ) (cost : List ℤ) (a : SpAnswer) : Type 0 where
-  pub finite : (k : ℕ) → k < length a.finite → IsLeastWeight net s cost (finite_at a k).node (finite_at a k).dist
+  pub finite : (k : ℕ) → k < length a.finite
+      → IsLeastWeight net s cost (finite_at a k).node (finite_at a k).dist
   pub low : (v : ℕ) → IsLow a v → HasNoLeastWeight net s cost v
   pub unreached : (v : ℕ) → IsToldUnreached a v → IsUnreached net s v
   pub all : (v : ℕ) → v < net.n → IsFinite a v ⊎ (IsLow a v ⊎ IsToldUnreached a v)

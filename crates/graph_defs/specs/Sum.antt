@@ -11,7 +11,8 @@ abbrev pub total_below : (ℕ → ℕ) → ℕ → ℕ
 total_below f zero = 0
 total_below f (suc k) = total_below f k + f k
 
--- what stands at a place of a row of integers; 0 past its end, so that an empty row is a row of zeros
+-- what stands at a place of a row of integers; 0 past its end, so that an empty row is a row of
+-- zeros
 abbrev pub at : List ℤ → ℕ → ℤ
 at row k = slice_index_or row k (pos 0)
 

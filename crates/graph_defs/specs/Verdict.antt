@@ -1,4 +1,5 @@
--- What it means that a checker's verdict is right: conditions in an order, each of which holds or is broken at places.
+-- What it means that a checker's verdict is right: conditions in an order, each of which holds or
+-- is broken at places.
 use Rattle.std.specs.Prelude.{◌≡◌, ◌⊎◌, ℕ, ◌<◌, List, [], ◌∷◌, Option, Some, None, ⊤}
 use Rattle.graph_defs.specs.declared.verdict.Cond.{Cond}
 use Rattle.graph_defs.specs.declared.verdict.Verdict.{Verdict}
@@ -9,7 +10,8 @@ pub record IsFirst (Holds : ℕ → Type 0) (place : ℕ) : Type 0 where
   pub broken : Holds place → ⊥
   pub least : (before : ℕ) → before < place → Holds before
 
--- what a search for a broken place may find: none, and then the condition holds at every place, or the first one
+-- what a search for a broken place may find: none, and then the condition holds at every place, or
+-- the first one
 abbrev pub Finds : (ℕ → Type 0) → Option ℕ → Type 0
 Finds Holds None = (place : ℕ) → Holds place
 Finds Holds (Some place) = IsFirst Holds place

@@ -6,8 +6,8 @@ use Rattle.graph_defs.specs.declared.answer.Reach.TheVariants.{Walk, Closed}
 use Rattle.graph_defs.specs.Net.{source, target}
 use Rattle.graph_defs.specs.Set.{is_in, leaves, IsCut}
 
--- steps that begin at v, go on where the last one ended, and end at w; each step is there, and leads from a node to a
--- node
+-- steps that begin at v, go on where the last one ended, and end at w; each step is there, and
+-- leads from a node to a node
 abbrev pub IsWalkBy : (ℕ → Type 0) → (ℕ → ℕ) → (ℕ → ℕ) → ℕ → ℕ → List ℕ → Type 0
 IsWalkBy IsThere from to v w [] = v ≡ w
 IsWalkBy IsThere from to v w (step ∷ steps) =
@@ -30,4 +30,5 @@ IsReach net v w (Closed nodes) = IsClosedSet net v w nodes
 -- the law that makes a closed set an answer
 abbrev pub ClosedSetExcludesWalks : Type 0
 ClosedSetExcludesWalks =
-    (net : Net) (v w : ℕ) (nodes arcs : List ℕ) → IsClosedSet net v w nodes → IsWalk net v w arcs → ⊥
+    (net : Net) (v w : ℕ) (nodes arcs : List ℕ) → IsClosedSet net v w nodes → IsWalk net v w arcs
+    → ⊥

@@ -1,4 +1,5 @@
-//! What answers show: laws over the definitions, each the contract of a function with an empty body.
+//! What answers show: laws over the definitions, each the contract of a function with an empty
+//! body.
 ghost use Rattle.graph_defs.specs.Cost.{ReducedIsCheapest, ReducedIsCheapestOfItsValue, SetExcludesFlows};
 ghost use Rattle.graph_defs.specs.Flow.{CutsBoundFlows, YesGivesGreatest};
 ghost use Rattle.graph_defs.specs.Matching.{CoversBoundMatchings, YesGivesLargest};
@@ -12,8 +13,8 @@ pub fn closed_set_excludes_walks()
 {}
 
 /// A right answer on shortest paths tells least weights: of all walks from the source to a finite
-/// node none weighs less than its distance, and one weighs just that; walks to a low node weigh less
-/// than any number; no walk leads to an unreached node; and every node is one of these.
+/// node none weighs less than its distance, and one weighs just that; walks to a low node weigh
+/// less than any number; no walk leads to an unreached node; and every node is one of these.
 pub fn shortest_gives_least_weights()
     ensures { ShortestGivesLeastWeights }
 {}
@@ -29,7 +30,8 @@ pub fn cuts_bound_flows()
     ensures { CutsBoundFlows }
 {}
 
-/// Where a checker finds that all conditions hold of a flow and its cut, no flow has a greater value.
+/// Where a checker finds that all conditions hold of a flow and its cut, no flow has a greater
+/// value.
 pub fn yes_gives_greatest()
     ensures { YesGivesGreatest }
 {}

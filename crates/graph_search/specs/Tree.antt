@@ -1,4 +1,5 @@
--- Private: what a breadth first search over rows keeps: the nodes that it has visited, and where it found them.
+-- Private: what a breadth first search over rows keeps: the nodes that it has visited, and where it
+-- found them.
 use Rattle.std.specs.Prelude.{◌≡◌, ℕ, ◌+◌, ◌-◌, ◌<◌, ◌≤◌, Bool, true, false, not, List, [], length, slice_index_or}
 use Rattle.std.specs.List.{All, Contains, filter, count_by, range_with_len}
 use Rattle.graph_defs.specs.declared.grouped.Incidence.{Incidence}
@@ -25,10 +26,12 @@ nodes_visited visited = filter (is_visited visited) (range_with_len 0 (length vi
 
 -- a node was found by an entry of the row of another
 abbrev pub IsFoundBy : List (List Incidence) → Found → Found → Type 0
-IsFoundBy rows predecessor found = Contains (row_at rows predecessor.node) (record { number = found.arc; end = found.node })
+IsFoundBy rows predecessor found =
+    Contains (row_at rows predecessor.node) (record { number = found.arc; end = found.node })
 
 -- place k was found by an entry of the row of a place before it
-pub record IsLink (rows : List (List Incidence)) (queue : List Found) (k : ℕ) (found : Found) : Type 0 where
+pub record IsLink (rows : List (List Incidence)) (queue : List Found) (k : ℕ)
+    (found : Found) : Type 0 where
   pub before : found.predecessor < k
   pub by : IsFoundBy rows (found_at queue found.predecessor) found
 
@@ -37,17 +40,21 @@ abbrev pub IsTree : List (List Incidence) → List Found → Type 0
 IsTree rows queue = (k : ℕ) → 0 < k → k < length queue → IsLink rows queue k (found_at queue k)
 
 -- the queue has just the visited nodes, each of them once
-pub record IsSearch (rows : List (List Incidence)) (visited : List Bool) (queue : List Found) : Type 0 where
+pub record IsSearch (rows : List (List Incidence)) (visited : List Bool)
+    (queue : List Found) : Type 0 where
   pub long : length visited ≡ length rows
   pub once : count_by not visited + length queue ≡ length rows
   pub some : 0 < length queue
   pub tree : IsTree rows queue
   pub nodes : (k : ℕ) → k < length queue
-      → ((found_at queue k).node < length rows) × (is_visited visited (found_at queue k).node ≡ true)
-  pub places : (v : ℕ) → is_visited visited v ≡ true → (k : ℕ) × (k < length queue) × ((found_at queue k).node ≡ v)
+      → ((found_at queue k).node < length rows)
+      × (is_visited visited (found_at queue k).node ≡ true)
+  pub places : (v : ℕ) → is_visited visited v ≡ true → (k : ℕ) × (k < length queue)
+      × ((found_at queue k).node ≡ v)
 
 -- a search went on
-pub record Grows (visited : List Bool) (queue : List Found) (visited' : List Bool) (queue' : List Found) : Type 0 where
+pub record Grows (visited : List Bool) (queue : List Found) (visited' : List Bool)
+    (queue' : List Found) : Type 0 where
   pub longer : length queue ≤ length queue'
   pub places : (k : ℕ) → k < length queue → found_at queue' k ≡ found_at queue k
   pub nodes : (v : ℕ) → is_visited visited v ≡ true → is_visited visited' v ≡ true
@@ -58,14 +65,17 @@ LeadToVisited visited row = All (λ (entry : Incidence). is_visited visited entr
 
 -- the first j entries of a row lead to visited nodes, and t isn't visited
 pub record IsSpreading (rows : List (List Incidence)) (t : ℕ) (row : List Incidence) (j : ℕ)
-    (visited : List Bool) (queue : List Found) (visited' : List Bool) (queue' : List Found) : Type 0 where
+    (visited : List Bool) (queue : List Found) (visited' : List Bool)
+    (queue' : List Found) : Type 0 where
   pub is : IsSearch rows visited' queue'
   pub grows : Grows visited queue visited' queue'
-  pub reached : (i : ℕ) (d : Incidence) → i < j → i < length row → is_visited visited' (slice_index_or row i d).end ≡ true
+  pub reached : (i : ℕ) (d : Incidence) → i < j → i < length row
+      → is_visited visited' (slice_index_or row i d).end ≡ true
   pub missing : is_visited visited' t ≡ false
 
 -- the rows of the places before `head` lead to visited nodes, and t isn't visited
-pub record IsUnderWay (rows : List (List Incidence)) (s t : ℕ) (head : ℕ) (visited : List Bool) (queue : List Found) : Type 0 where
+pub record IsUnderWay (rows : List (List Incidence)) (s t : ℕ) (head : ℕ) (visited : List Bool)
+    (queue : List Found) : Type 0 where
   pub is : IsSearch rows visited queue
   pub root : (found_at queue 0).node ≡ s
   pub missing : is_visited visited t ≡ false

@@ -101,7 +101,8 @@ pub(crate) fn has_source(s: u32, a: &SpAnswer) -> bool
 
 // Whether each finite node behind the first has an arc.
 fn have_arcs(a: &SpAnswer) -> bool
-    ensures { IsTrue result ↔ ((k : ℕ) → 0 < k → k < length a.now.finite → IsSome (finite_at a.now k).pred) }
+    ensures { IsTrue result ↔
+        ((k : ℕ) → 0 < k → k < length a.now.finite → IsSome (finite_at a.now k).pred) }
 {
     for place in 1..finite_count(a) {
         if finite_of(a, place).pred.is_none() {

@@ -151,7 +151,8 @@ fn is_not_shorter_from(
     }
 }
 
-// The first arc that leads from a reached node to an unreached one, or from a low node to a finite one.
+// The first arc that leads from a reached node to an unreached one, or from a low node to a finite
+// one.
 pub(crate) fn first_leaving(net: &Net, cost: &[i64], a: &SpAnswer, places: &[usize]) -> Option<u32>
     requires { IsPlaced net.now cost.now a.now places.now }
     ensures { FindsBelow (length net.now.arcs) (StaysWithin net.now a.now) result }

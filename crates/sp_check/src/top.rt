@@ -14,11 +14,11 @@ use graph_defs::{Cond, Net, SpAnswer, Verdict};
 use leda_base::NoMemory;
 use std::alloc::Global;
 
-/// Whether an answer on shortest paths from `s` is right: yes where all conditions of a right answer
-/// hold, else the first condition that is broken, in their order, and its least place.
+/// Whether an answer on shortest paths from `s` is right: yes where all conditions of a right
+/// answer hold, else the first condition that is broken, in their order, and its least place.
 ///
-/// It takes any answer, whatever its numbers are. Sums are exact. In time and memory linear in the net
-/// and the answer.
+/// It takes any answer, whatever its numbers are. Sums are exact. In time and memory linear in the
+/// net and the answer.
 ///
 /// # Errors
 /// `NoMemory` where the room isn't given.
@@ -32,7 +32,8 @@ pub fn check_sp(
     requires valid { IsValid net.now }
     requires s { s < net.now.n }
     requires costs { length cost.now ≡ length net.now.arcs }
-    ensures { IfOk result (λ verdict. IsVerdict (SpHolds net.now s cost.now a.now) sp_order verdict) }
+    ensures { IfOk result (λ verdict.
+        IsVerdict (SpHolds net.now s cost.now a.now) sp_order verdict) }
 {
     if !is_in_range(net, a) {
         return Ok(broken(Cond::Range, 0));
@@ -59,7 +60,8 @@ fn check_placed(
 ) -> Result<Verdict, NoMemory>
     requires placed { IsPlaced net.now cost.now a.now places.now }
     requires source { IsSource s a.now }
-    ensures { IfOk result (λ verdict. IsVerdict (SpHolds net.now s cost.now a.now) sp_order verdict) }
+    ensures { IfOk result (λ verdict.
+        IsVerdict (SpHolds net.now s cost.now a.now) sp_order verdict) }
 {
     if let Some(node) = first_not_tight(net, cost, a, places) {
         return Ok(broken(Cond::TightNode, node));
