@@ -5,6 +5,7 @@ use Rattle.std.specs.Prelude.{ℤ}
 use Rattle.std.specs.Ordering.{int_cmp}
 use Rattle.std.specs.BTreeMap as tree
 use Rattle.std.specs.FinMap as map
+use Rattle.item_pool.specs.declared.pool.TheConstants.{MOST_SERIALS}
 use Rattle.item_pool.specs.declared.pool.Gone.{Gone}
 use Rattle.item_pool.specs.declared.pool.Item.{Item}
 use Rattle.item_pool.specs.Contents as pool
@@ -67,7 +68,7 @@ module _ {X : Type 0} (p : Inside X) (a : IsDict p) where
       let after : seen q ≡ contents (map.insert (triples_of live serials) k (s, x)) s =
       λ i. contents (((λ j. triples_of (grown j) (names j)) ∙ triples_add live serials a s k x fresh unnamed) i) (made i) in
       let is : Adds (seen p) (seen q) k x s =
-      record { absent = none; serial = serial; fresh = missing live serials a p.pool.made s fresh; within = subst (λ n. n < 16777215) kept.1 ins.within; after = after } in
+      record { absent = none; serial = serial; fresh = missing live serials a p.pool.made s fresh; within = subst (λ n. n < MOST_SERIALS) kept.1 ins.within; after = after } in
       (is, subst (λ m. IsIndexed m (serials_of q.tree)) (sym grown) (subst (λ m. IsIndexed (map.insert live s (pair k x)) m) (sym names) (indexed_add live serials a s k x fresh unnamed)))
 
   pub writes : (q : Inside X) (s : ℕ) (e : Entry X) (x : X) → map.get p.pool.live s ≡ Some e → q.pool ≡ pool.contents (map.insert p.pool.live s (pair e.key x)) p.pool.made p.pool.spare → q.tree ≡ p.tree → Changes (seen p) (seen q) s e.key x e.inf × IsDict q

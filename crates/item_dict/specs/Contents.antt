@@ -3,6 +3,7 @@ use Rattle.std.specs.Prelude.{◌≡◌, ℕ, ◌+◌, ◌<◌, ◌≤◌, ℤ, 
 use Rattle.std.specs.Coded.{Coded, code_by, coded×, coded_ℕ, coded_ℤ}
 use Rattle.std.specs.Ordering.{int_cmp}
 use Rattle.std.specs.FinMap as map
+use Rattle.item_pool.specs.declared.pool.TheConstants.{MOST_SERIALS}
 use Rattle.item_pool.specs.Contents.{WhyGone}
 use Rattle.item_pool.specs.declared.pool.Gone.{Gone}
 use Rattle.item_pool.specs.declared.pool.InsertRefusal.{InsertRefusal}
@@ -55,7 +56,7 @@ module _ {X : Type 0} where
 
   -- each item was made
   abbrev pub IsWithin : Contents X → Type 0
-  IsWithin d = ((s : ℕ) (k : ℤ) (x : X) → Holds d s k x → (0 < s) × (s ≤ d.made)) × (d.made ≤ 16777215)
+  IsWithin d = ((s : ℕ) (k : ℤ) (x : X) → Holds d s k x → (0 < s) × (s ≤ d.made)) × (d.made ≤ MOST_SERIALS)
 
   -- d with x as the information of the item s, which has the key k and had the information old, is e
   pub record Changes (d e : Contents X) (s : ℕ) (k : ℤ) (x old : X) : Type 0 where
@@ -68,7 +69,7 @@ module _ {X : Type 0} where
     pub absent : IsAbsent d k
     pub serial : s ≡ d.made + 1
     pub fresh : HasNo d s
-    pub within : d.made < 16777215
+    pub within : d.made < MOST_SERIALS
     pub after : e ≡ contents (map.insert d.triples k (s, x)) s
 
   -- a present key k keeps its item s and has x as its information, and an absent one comes in with the next serial
@@ -77,8 +78,8 @@ module _ {X : Type 0} where
 
   -- x comes back: spent where each serial was made, and else for want of memory
   abbrev pub Returns : Contents X → X → InsertRefusal X → Type 0
-  Returns d x (NoMemory y) = (y ≡ x) × (d.made < 16777215)
-  Returns d x (Spent y) = (y ≡ x) × (d.made ≡ 16777215)
+  Returns d x (NoMemory y) = (y ≡ x) × (d.made < MOST_SERIALS)
+  Returns d x (Spent y) = (y ≡ x) × (d.made ≡ MOST_SERIALS)
 
   -- the key k is absent, x comes back, and all is as before
   abbrev pub Refuses : Contents X → Contents X → ℤ → X → InsertRefusal X → Type 0

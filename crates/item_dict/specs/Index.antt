@@ -1,4 +1,4 @@
--- How the pool and the tree of a dictionary hold its contents.
+-- Private: how the pool and the tree of a dictionary hold its contents.
 use Rattle.std.specs.Prelude.{◌≡◌, ℕ, ℤ, List, [], ◌∷◌, Option, Some, None}
 use Rattle.std.specs.Ordering.{nat_cmp, int_cmp}
 use Rattle.std.specs.FinMap as map

@@ -56,7 +56,8 @@ fn live_item<I>(pool: &Pool<Entry<I>>, serial: u32) -> Item
 
 /// The serial of the least key above `k`.
 fn next_above(tree: &BTreeMap<i64, u32>, k: i64) -> Option<u32>
-    ensures { MatchOption result (IsLastUpTo (IsNamed tree.now) k) (λ s. (j : ℤ) × IsNextAfter (IsNamed tree.now) k s j) }
+    ensures { MatchOption result (IsLastUpTo (IsNamed tree.now) k) (λ s.
+        (j : ℤ) × IsNextAfter (IsNamed tree.now) k s j) }
 {
     match tree.range((Bound::Excluded(k), Bound::Unbounded)).next() {
         Some((_, serial)) => Some(*serial),
@@ -66,7 +67,8 @@ fn next_above(tree: &BTreeMap<i64, u32>, k: i64) -> Option<u32>
 
 /// The serial of the greatest key below `k`.
 fn next_below(tree: &BTreeMap<i64, u32>, k: i64) -> Option<u32>
-    ensures { MatchOption result (IsFirstFrom (IsNamed tree.now) k) (λ s. (j : ℤ) × IsNextBefore (IsNamed tree.now) k s j) }
+    ensures { MatchOption result (IsFirstFrom (IsNamed tree.now) k) (λ s.
+        (j : ℤ) × IsNextBefore (IsNamed tree.now) k s j) }
 {
     match tree
         .range((Bound::Unbounded, Bound::Excluded(k)))
@@ -94,7 +96,6 @@ impl<I: Drop> Dict<I> {
         ensures apart { AreApart self.now }
         ensures within { IsWithin self.now }
     {
-        let _made = self.pool.made();
         self.pool.len()
     }
 
@@ -112,9 +113,11 @@ impl<I: Drop> Dict<I> {
     ///
     /// # Errors
     ///
-    /// `Dead` where the serial is from 1 to the number made and isn't live, and `Unknown` where it is 0 or above.
+    /// `Dead` where the serial is from 1 to the number made and isn't live, and `Unknown` where it
+    /// is 0 or above.
     pub fn key(&self, it: Item) -> Result<i64, Gone>
-        ensures { MatchResult result (λ k. HasKey self.now it.serial k) (λ why. Lacks self.now it.serial why) }
+        ensures { MatchResult result (λ k. HasKey self.now it.serial k)
+            (λ why. Lacks self.now it.serial why) }
     {
         match self.pool.get(it) {
             Ok(entry) => Ok(entry.key),
@@ -128,7 +131,8 @@ impl<I: Drop> Dict<I> {
     ///
     /// As those of `key`.
     pub fn inf(&self, it: Item) -> Result<&I, Gone>
-        ensures { MatchResult result (λ x. HasInf self.now it.serial x.now) (λ why. Lacks self.now it.serial why) }
+        ensures { MatchResult result (λ x. HasInf self.now it.serial x.now)
+            (λ why. Lacks self.now it.serial why) }
     {
         match self.pool.get(it) {
             Ok(entry) => Ok(&entry.inf),
@@ -138,7 +142,8 @@ impl<I: Drop> Dict<I> {
 
     /// The item of the least key, and none exactly where there are no entries.
     pub fn min(&self) -> Option<Item>
-        ensures { MatchOption result (self.now.triples ≡ map.empty) (λ it. (k : ℤ) × IsLeast (HasKey self.now) it.serial k) }
+        ensures { MatchOption result (self.now.triples ≡ map.empty) (λ it.
+            (k : ℤ) × IsLeast (HasKey self.now) it.serial k) }
     {
         match self.tree.first_key_value() {
             Some((_, serial)) => Some(live_item(&self.pool, *serial)),
@@ -148,7 +153,8 @@ impl<I: Drop> Dict<I> {
 
     /// The item of the greatest key, and none exactly where there are no entries.
     pub fn max(&self) -> Option<Item>
-        ensures { MatchOption result (self.now.triples ≡ map.empty) (λ it. (k : ℤ) × IsGreatest (HasKey self.now) it.serial k) }
+        ensures { MatchOption result (self.now.triples ≡ map.empty) (λ it.
+            (k : ℤ) × IsGreatest (HasKey self.now) it.serial k) }
     {
         match self.tree.last_key_value() {
             Some((_, serial)) => Some(live_item(&self.pool, *serial)),
@@ -162,7 +168,8 @@ impl<I: Drop> Dict<I> {
     ///
     /// As those of `key`. All is then as it was.
     pub fn change_inf(&mut self, it: Item, i: I) -> Result<I, Gone>
-        ensures { MatchResult result (λ old. (k : ℤ) × Changes self.old self.new it.serial k i old) (λ why. Lacks self.old it.serial why × (self.new ≡ self.old)) }
+        ensures { MatchResult result (λ old. (k : ℤ) × Changes self.old self.new it.serial k i old)
+            (λ why. Lacks self.old it.serial why × (self.new ≡ self.old)) }
     {
         let entry = self.pool.get_mut(it)?;
         Ok(mem::replace(&mut entry.inf, i))
@@ -171,7 +178,8 @@ impl<I: Drop> Dict<I> {
     /// Takes in an entry of an absent key, under the next serial.
     fn add(&mut self, k: i64, i: I) -> Result<Item, InsertRefusal<I>>
         requires { IsAbsent self.old k }
-        ensures { MatchResult result (λ it. Adds self.old self.new k i it.serial) (λ why. Refuses self.old self.new k i why) }
+        ensures { MatchResult result (λ it. Adds self.old self.new k i it.serial)
+            (λ why. Refuses self.old self.new k i why) }
     {
         let made = self.pool.made();
         if made == MOST_SERIALS {
@@ -186,15 +194,16 @@ impl<I: Drop> Dict<I> {
         }
     }
 
-    /// Inserts a key with its information. A key that is present keeps its item, has the new information from then on,
-    /// takes no memory and is never refused.
+    /// Inserts a key with its information. A key that is present keeps its item, has the new
+    /// information from then on, takes no memory and is never refused.
     ///
     /// # Errors
     ///
-    /// For an absent key alone: `Spent` exactly where 16,777,215 items were made, and `NoMemory` where there is no memory.
-    /// The information comes back, and all is as it was.
+    /// For an absent key alone: `Spent` exactly where 16,777,215 items were made, and `NoMemory`
+    /// where there is no memory. The information comes back, and all is as it was.
     pub fn insert(&mut self, k: i64, i: I) -> Result<Item, InsertRefusal<I>>
-        ensures { MatchResult result (λ it. Inserts self.old self.new k i it.serial) (λ why. Refuses self.old self.new k i why) }
+        ensures { MatchResult result (λ it. Inserts self.old self.new k i it.serial)
+            (λ why. Refuses self.old self.new k i why) }
     {
         match self.lookup(k) {
             Some(it) => match self.change_inf(it, i) {
@@ -205,10 +214,11 @@ impl<I: Drop> Dict<I> {
         }
     }
 
-    /// Removes the entry of a key, and answers its information, and none exactly where the key is absent. It takes no
-    /// memory.
+    /// Removes the entry of a key, and answers its information, and none exactly where the key is
+    /// absent. It takes no memory.
     pub fn del(&mut self, k: i64) -> Option<I>
-        ensures { MatchOption result (IsAbsent self.old k × (self.new ≡ self.old)) (λ x. (s : ℕ) × Removes self.old self.new s k x) }
+        ensures { MatchOption result (IsAbsent self.old k × (self.new ≡ self.old)) (λ x.
+            (s : ℕ) × Removes self.old self.new s k x) }
     {
         match self.tree.remove(&k) {
             Some(serial) => match self.pool.remove(Item { slot: 0, serial }) {
@@ -225,7 +235,8 @@ impl<I: Drop> Dict<I> {
     ///
     /// As those of `key`. All is then as it was.
     pub fn del_item(&mut self, it: Item) -> Result<I, Gone>
-        ensures { MatchResult result (λ x. (k : ℤ) × Removes self.old self.new it.serial k x) (λ why. Lacks self.old it.serial why × (self.new ≡ self.old)) }
+        ensures { MatchResult result (λ x. (k : ℤ) × Removes self.old self.new it.serial k x)
+            (λ why. Lacks self.old it.serial why × (self.new ≡ self.old)) }
     {
         match self.pool.remove(it) {
             Ok(Entry { key, inf }) => {
@@ -242,7 +253,13 @@ impl<I: Drop> Dict<I> {
     ///
     /// As those of `key`.
     pub fn succ(&self, it: Item) -> Result<Option<Item>, Gone>
-        ensures { MatchResult result (λ next. (k : ℤ) × HasKey self.now it.serial k × MatchOption next (IsLastUpTo (HasKey self.now) k) (λ n. (j : ℤ) × IsNextAfter (HasKey self.now) k n.serial j)) (λ why. Lacks self.now it.serial why) }
+        ensures { MatchResult result
+            (λ next.
+            (k : ℤ)
+            × HasKey self.now it.serial k
+            × MatchOption next (IsLastUpTo (HasKey self.now) k) (λ n.
+            (j : ℤ) × IsNextAfter (HasKey self.now) k n.serial j))
+            (λ why. Lacks self.now it.serial why) }
     {
         match self.pool.get(it) {
             Ok(entry) => match next_above(&self.tree, entry.key) {
@@ -259,7 +276,13 @@ impl<I: Drop> Dict<I> {
     ///
     /// As those of `key`.
     pub fn pred(&self, it: Item) -> Result<Option<Item>, Gone>
-        ensures { MatchResult result (λ next. (k : ℤ) × HasKey self.now it.serial k × MatchOption next (IsFirstFrom (HasKey self.now) k) (λ n. (j : ℤ) × IsNextBefore (HasKey self.now) k n.serial j)) (λ why. Lacks self.now it.serial why) }
+        ensures { MatchResult result
+            (λ next.
+            (k : ℤ)
+            × HasKey self.now it.serial k
+            × MatchOption next (IsFirstFrom (HasKey self.now) k) (λ n.
+            (j : ℤ) × IsNextBefore (HasKey self.now) k n.serial j))
+            (λ why. Lacks self.now it.serial why) }
     {
         match self.pool.get(it) {
             Ok(entry) => match next_below(&self.tree, entry.key) {

@@ -1,4 +1,5 @@
-//! What no clause says: each call's answer where there is memory, and that a long run of calls goes as a plain table.
+//! What no clause says: each call's answer where there is memory, and that a long run of calls goes
+//! as a plain table.
 use crate::{Dict, Gone, InsertRefusal, Item};
 use std::alloc::Global;
 use std::test::Fail;

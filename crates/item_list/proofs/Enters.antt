@@ -5,6 +5,7 @@ use Rattle.std.specs.Ordering.{nat_cmp}
 use Rattle.std.specs.Cmp.{nat_cmp_total}
 use Rattle.std.specs.FinMap as map
 use Rattle.std.specs.FinMap.{FinMap, len-insert}
+use Rattle.item_pool.specs.declared.pool.TheConstants.{MOST_SERIALS}
 use Rattle.item_pool.specs.Contents.{Contents}
 use Rattle.item_pool.specs.declared.pool.Item.{Item}
 use Rattle.item_pool.specs.declared.pool.InsertRefusal.{InsertRefusal}
@@ -130,7 +131,7 @@ module _ {X : Type 0} where
       apart = same.3;
       within = (
         λ j n e. let w = kept.within.0 j n (ap (λ (l : FinMap nat_cmp (Node X)). map.get l j) (sym refused.live) ∙ e) in (w.0, subst (λ k. j ≤ k) (sym refused.made) w.1),
-        subst (λ k. k ≤ 16777215) (sym refused.made) kept.within.1,
+        subst (λ k. k ≤ MOST_SERIALS) (sym refused.made) kept.within.1,
       );
       few = subst (λ (g : FinMap nat_cmp ℕ). map.len g ≤ q.made) (sym same.1) (subst (λ k. map.len s.tags ≤ k) (sym refused.made) kept.few);
     }

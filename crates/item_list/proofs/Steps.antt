@@ -5,6 +5,7 @@ use Rattle.std.specs.Ordering.{nat_cmp}
 use Rattle.std.specs.Cmp.{nat_cmp_total}
 use Rattle.std.specs.FinMap as map
 use Rattle.std.specs.FinMap.{FinMap, get-empty, len-empty, len-remove}
+use Rattle.item_pool.specs.declared.pool.TheConstants.{MOST_SERIALS}
 use Rattle.item_pool.specs.Contents.{Contents, contents, IsWithin}
 use Rattle.item_pool.specs.Contents as pool
 use Rattle.item_pool.specs.declared.pool.Gone.{Gone}
@@ -36,7 +37,7 @@ is_none : (head : Option ℕ) → ((h : ℕ) → head ≡ Some h → ⊥) → he
 is_none None out = refl
 is_none (Some h) out = absurd (out h refl)
 
-pub empty_few : (s : RingLists) (head : Option ℕ) → IsHeaded s head → ((h : ℕ) → head ≡ Some h → ⊥) → map.len s.rings < 16777215
+pub empty_few : (s : RingLists) (head : Option ℕ) → IsHeaded s head → ((h : ℕ) → head ≡ Some h → ⊥) → map.len s.rings < MOST_SERIALS
 empty_few s head e out =
     let f : s.rings ≡ map.empty = subst (IsHeaded s) (is_none head out) e in
     let z : map.len s.rings ≡ 0 = ap map.len f ∙ len-empty nat_cmp (List ℕ) in
@@ -137,7 +138,7 @@ module _ {X : Type 0} where
       apart = apart;
       within = (
         λ j o f. let w = kept.within.0 j o (was j o f) in (w.0, subst (λ z. j ≤ z) (sym made) w.1),
-        subst (λ z. z ≤ 16777215) (sym made) kept.within.1,
+        subst (λ z. z ≤ MOST_SERIALS) (sym made) kept.within.1,
       );
       few =
           let w = less (map.contains_key s.tags n.member) (map.len s.tags) (map.len t.tags) (ap map.len tags ∙ len-remove nat_cmp_total s.tags n.member) in
@@ -305,7 +306,7 @@ module _ {X : Type 0} where
           | inl w ↦ let g = kept.within.0 k n e in (omega (arith, g.0, w.1), omega (arith, g.1, w.1, made))
           | inr w ↦ let g = kept.within.0 j o (sym (other_live j w.1) ∙ f) in (g.0, omega (arith, g.1, made))
         ],
-        subst (λ z. z ≤ 16777215) (sym made) kept.within.1,
+        subst (λ z. z ≤ MOST_SERIALS) (sym made) kept.within.1,
       );
       few = subst (λ z. map.len s.tags ≤ z) (sym made) kept.few;
     }

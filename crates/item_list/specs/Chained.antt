@@ -1,4 +1,4 @@
--- What the parts of a chain stand for.
+-- Private: what the parts of a chain stand for.
 use Rattle.item_list.specs.declared.chain.Chain.TheInside.{Inside}
 use Rattle.item_list.specs.Items.{Items}
 use Rattle.item_list.specs.Kept.{items_of, IsKept}

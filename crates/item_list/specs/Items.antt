@@ -1,6 +1,7 @@
 -- What a contract sees of a list of values by items.
 use Rattle.std.specs.Prelude.{◌≡◌, ℕ, ◌+◌, ◌<◌, ◌≤◌, ◌==◌, cond, List, [], ◌∷◌, ◌++◌, Option, Some, None, refl}
 use Rattle.std.specs.Coded.{Coded, code_by, coded×, coded_ℕ, coded_list}
+use Rattle.item_pool.specs.declared.pool.TheConstants.{MOST_SERIALS}
 use Rattle.item_pool.specs.Contents.{WhyGone}
 use Rattle.item_pool.specs.declared.pool.Gone.{Gone}
 use Rattle.item_pool.specs.declared.pool.Item.{Item}
@@ -70,24 +71,24 @@ module _ {X : Type 0} where
   pub record AreItems (l : Items X) : Type 0 where
     pub distinct : IsDistinct (serials l.pairs)
     pub given : (s : ℕ) → IsIn s (serials l.pairs) → (0 < s) × (s ≤ l.made)
-    pub most : l.made ≤ 16777215
+    pub most : l.made ≤ MOST_SERIALS
 
   -- the next serial names a new value, and the list is then the pairs
   pub record Enters (l t : Items X) (it : Item) (after : List (ℕ × X)) : Type 0 where
     pub serial : it.serial ≡ l.made + 1
     pub pairs : t.pairs ≡ after
     pub made : t.made ≡ l.made + 1
-    pub within : l.made < 16777215
+    pub within : l.made < MOST_SERIALS
 
   -- x comes back: spent where each serial was given, and else for want of memory
   abbrev pub Returns : Items X → X → InsertRefusal X → Type 0
-  Returns l x (NoMemory y) = (y ≡ x) × (l.made < 16777215)
-  Returns l x (Spent y) = (y ≡ x) × (l.made ≡ 16777215)
+  Returns l x (NoMemory y) = (y ≡ x) × (l.made < MOST_SERIALS)
+  Returns l x (Spent y) = (y ≡ x) × (l.made ≡ MOST_SERIALS)
 
   abbrev pub ReturnsBeside : Items X → ℕ → X → BesideRefusal X → Type 0
   ReturnsBeside l s x (beside.Gone y why) = (y ≡ x) × Lacks l s why
-  ReturnsBeside l s x (beside.NoMemory y) = (y ≡ x) × HasItem l s × (l.made < 16777215)
-  ReturnsBeside l s x (beside.Spent y) = (y ≡ x) × HasItem l s × (l.made ≡ 16777215)
+  ReturnsBeside l s x (beside.NoMemory y) = (y ≡ x) × HasItem l s × (l.made < MOST_SERIALS)
+  ReturnsBeside l s x (beside.Spent y) = (y ≡ x) × HasItem l s × (l.made ≡ MOST_SERIALS)
 
   -- the serial s, which has the value x, is gone
   abbrev pub Removes : Items X → Items X → ℕ → X → Type 0

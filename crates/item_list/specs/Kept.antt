@@ -1,7 +1,8 @@
--- How a ring of members and a pool of nodes stand for a chain.
+-- Private: how a ring of members and a pool of nodes stand for a chain.
 use Rattle.std.specs.Prelude.{◌≡◌, ℕ, ◌+◌, ◌<◌, ◌≤◌, false, List, [], ◌∷◌, Option, Some, None, ◌⊎◌}
 use Rattle.std.specs.Ordering.{nat_cmp}
 use Rattle.std.specs.FinMap as map
+use Rattle.item_pool.specs.declared.pool.TheConstants.{MOST_SERIALS}
 use Rattle.item_pool.specs.Contents.{Contents, IsWithin, HasLive}
 use Rattle.item_pool.specs.declared.pool.Item.{Item}
 use Rattle.item_pool.specs.declared.pool.InsertRefusal.{InsertRefusal}
@@ -65,7 +66,7 @@ module _ {X : Type 0} where
 
   -- the next serial has a node with x, whose member m is loose
   pub record Makes (s t : RingLists) (p q : Contents (Node X)) (m : ℕ) (it : Item) (x : X) : Type 0 where
-    pub room : p.made < 16777215
+    pub room : p.made < MOST_SERIALS
     pub serial : it.serial ≡ p.made + 1
     pub made : q.made ≡ p.made + 1
     pub live : q.live ≡ map.insert p.live (p.made + 1) (node x m)

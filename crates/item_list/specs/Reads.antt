@@ -1,4 +1,4 @@
--- A list is a chain that is read from its front, or from its rear where it is turned.
+-- Private: a list is a chain that is read from its front, or from its rear where it is turned.
 use Rattle.std.specs.Prelude.{Bool, true, false, reverse}
 use Rattle.item_list.specs.declared.list.List.TheInside.{Inside}
 use Rattle.item_list.specs.Items.{Items, items}

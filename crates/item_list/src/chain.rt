@@ -63,7 +63,7 @@ fn make_node<E>(
     value: E,
 ) -> Result<(Member, Item), InsertRefusal<E>>
     requires few { map.len rings.old.tags ≤ nodes.old.made }
-    requires room { nodes.old.made < 16777215 }
+    requires room { nodes.old.made < MOST_SERIALS }
     ensures ok { IfOk result (λ r. Makes rings.old rings.new nodes.old nodes.new r.0 r.1 value) }
     ensures err { IfErr result (λ why. Declines rings.old rings.new nodes.old nodes.new value why) }
 {
@@ -86,8 +86,10 @@ fn enter<E>(
     value: E,
 ) -> Result<(Head, Member, Item), InsertRefusal<E>>
     requires kept { IsKept rings.old head.old nodes.old }
-    ensures ok { IfOk result (λ r. Comes rings.old rings.new head.old head.new nodes.old nodes.new r.0 r.1 r.2 value) }
-    ensures err { IfErr result (λ why. Declined rings.old rings.new head.old head.new nodes.old nodes.new value why) }
+    ensures ok { IfOk result (λ r.
+        Comes rings.old rings.new head.old head.new nodes.old nodes.new r.0 r.1 r.2 value) }
+    ensures err { IfErr result (λ why.
+        Declined rings.old rings.new head.old head.new nodes.old nodes.new value why) }
 {
     if nodes.made() == MOST_SERIALS {
         return Err(InsertRefusal::Spent(value));
@@ -144,7 +146,8 @@ impl<E: Drop> Chain<E> {
             HasItem self.old at.serial
             × Enters self.old self.new it
             (pairs_beside side at.serial (self.old.made + 1, v) self.old.pairs)) }
-        ensures err { IfErr result (λ why. ReturnsBeside self.old at.serial v why × (self.new ≡ self.old)) }
+        ensures err { IfErr result (λ why.
+            ReturnsBeside self.old at.serial v why × (self.new ≡ self.old)) }
         ensures whole { AreItems self.old }
     {
         let place = match self.nodes.get(at) {
@@ -158,7 +161,8 @@ impl<E: Drop> Chain<E> {
 
     /// Takes a value out.
     pub(crate) fn del_item(&mut self, it: Item) -> Result<E, Gone>
-        ensures answer { MatchResult result (λ v. Removes self.old self.new it.serial v) (λ why. Lacks self.old it.serial why × (self.new ≡ self.old)) }
+        ensures answer { MatchResult result (λ v. Removes self.old self.new it.serial v)
+            (λ why. Lacks self.old it.serial why × (self.new ≡ self.old)) }
         ensures whole { AreItems self.old }
     {
         let node = self.nodes.remove(it)?;
@@ -169,7 +173,8 @@ impl<E: Drop> Chain<E> {
 
     /// The value of an item.
     pub(crate) fn contents(&self, it: Item) -> Result<&E, Gone>
-        ensures answer { MatchResult result (λ v. Holds self.now it.serial v.now) (λ why. Lacks self.now it.serial why) }
+        ensures answer { MatchResult result (λ v. Holds self.now it.serial v.now)
+            (λ why. Lacks self.now it.serial why) }
         ensures whole { AreItems self.now }
     {
         let node = self.nodes.get(it)?;
@@ -178,7 +183,8 @@ impl<E: Drop> Chain<E> {
 
     /// Gives an item another value.
     pub(crate) fn assign(&mut self, it: Item, v: E) -> Result<E, Gone>
-        ensures answer { MatchResult result (λ old. Assigns self.old self.new it.serial old v) (λ why. Lacks self.old it.serial why × (self.new ≡ self.old)) }
+        ensures answer { MatchResult result (λ old. Assigns self.old self.new it.serial old v)
+            (λ why. Lacks self.old it.serial why × (self.new ≡ self.old)) }
         ensures whole { AreItems self.old }
     {
         let node = self.nodes.get_mut(it)?;
@@ -207,7 +213,8 @@ impl<E: Drop> Chain<E> {
 
     /// The item right beside another, round the ends.
     pub(crate) fn item_round(&self, side: Side, it: Item) -> Result<Item, Gone>
-        ensures { MatchResult result (IsCyclicBeside side self.now it.serial) (Lacks self.now it.serial) }
+        ensures { MatchResult result (IsCyclicBeside side self.now it.serial)
+            (Lacks self.now it.serial) }
     {
         let node = self.nodes.get(it)?;
         let near = member_round(&self.rings, side, node.member);

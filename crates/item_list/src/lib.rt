@@ -20,5 +20,3 @@ mod tests;
 pub use item_pool::{Gone, InsertRefusal, Item};
 pub use list::List;
 pub use node::BesideRefusal;
-#[doc(hidden)]
-pub use node::Node;

@@ -51,7 +51,8 @@ impl<E: Drop> List<E> {
     /// `Spent` exactly where 16,777,215 items were made, and `NoMemory` where there is no memory.
     /// The value comes back, and the list is as before.
     pub fn push(&mut self, v: E) -> Result<Item, InsertRefusal<E>>
-        ensures ok { IfOk result (λ it. Enters self.old self.new it ((self.old.made + 1, v) ∷ self.old.pairs)) }
+        ensures ok { IfOk result (λ it.
+            Enters self.old self.new it ((self.old.made + 1, v) ∷ self.old.pairs)) }
         ensures err { IfErr result (λ why. Returns self.old v why × (self.new ≡ self.old)) }
     {
         self.put(Side::Front, v)
@@ -63,7 +64,8 @@ impl<E: Drop> List<E> {
     ///
     /// As those of `push`.
     pub fn append(&mut self, v: E) -> Result<Item, InsertRefusal<E>>
-        ensures ok { IfOk result (λ it. Enters self.old self.new it (self.old.pairs ++ (self.old.made + 1, v) ∷ [])) }
+        ensures ok { IfOk result (λ it.
+            Enters self.old self.new it (self.old.pairs ++ (self.old.made + 1, v) ∷ [])) }
         ensures err { IfErr result (λ why. Returns self.old v why × (self.new ≡ self.old)) }
     {
         self.put(Side::Rear, v)
@@ -77,8 +79,12 @@ impl<E: Drop> List<E> {
     /// 16,777,215 items were made, and `NoMemory` where there is no memory. The value comes back,
     /// and the list is as before.
     pub fn insert_before(&mut self, at: Item, v: E) -> Result<Item, BesideRefusal<E>>
-        ensures ok { IfOk result (λ it. HasItem self.old at.serial × Enters self.old self.new it (pairs_before at.serial (self.old.made + 1, v) self.old.pairs)) }
-        ensures err { IfErr result (λ why. ReturnsBeside self.old at.serial v why × (self.new ≡ self.old)) }
+        ensures ok { IfOk result (λ it.
+            HasItem self.old at.serial
+            × Enters self.old self.new it
+            (pairs_before at.serial (self.old.made + 1, v) self.old.pairs)) }
+        ensures err { IfErr result (λ why.
+            ReturnsBeside self.old at.serial v why × (self.new ≡ self.old)) }
     {
         self.put_beside(Side::Front, at, v)
     }
@@ -89,8 +95,12 @@ impl<E: Drop> List<E> {
     ///
     /// As those of `insert_before`.
     pub fn insert_behind(&mut self, at: Item, v: E) -> Result<Item, BesideRefusal<E>>
-        ensures ok { IfOk result (λ it. HasItem self.old at.serial × Enters self.old self.new it (pairs_behind at.serial (self.old.made + 1, v) self.old.pairs)) }
-        ensures err { IfErr result (λ why. ReturnsBeside self.old at.serial v why × (self.new ≡ self.old)) }
+        ensures ok { IfOk result (λ it.
+            HasItem self.old at.serial
+            × Enters self.old self.new it
+            (pairs_behind at.serial (self.old.made + 1, v) self.old.pairs)) }
+        ensures err { IfErr result (λ why.
+            ReturnsBeside self.old at.serial v why × (self.new ≡ self.old)) }
     {
         self.put_beside(Side::Rear, at, v)
     }
@@ -102,7 +112,8 @@ impl<E: Drop> List<E> {
     /// `Dead` where the serial is from 1 to the number made and isn't in the list, and `Unknown`
     /// where it is 0 or above. The list is then as it was.
     pub fn del_item(&mut self, it: Item) -> Result<E, Gone>
-        ensures { MatchResult result (λ v. Removes self.old self.new it.serial v) (λ why. Lacks self.old it.serial why × (self.new ≡ self.old)) }
+        ensures { MatchResult result (λ v. Removes self.old self.new it.serial v)
+            (λ why. Lacks self.old it.serial why × (self.new ≡ self.old)) }
     {
         self.chain.del_item(it)
     }
@@ -113,7 +124,8 @@ impl<E: Drop> List<E> {
     ///
     /// As those of `del_item`.
     pub fn contents(&self, it: Item) -> Result<&E, Gone>
-        ensures { MatchResult result (λ v. Holds self.now it.serial v.now) (λ why. Lacks self.now it.serial why) }
+        ensures { MatchResult result (λ v. Holds self.now it.serial v.now)
+            (λ why. Lacks self.now it.serial why) }
     {
         self.chain.contents(it)
     }
@@ -124,7 +136,8 @@ impl<E: Drop> List<E> {
     ///
     /// As those of `del_item`.
     pub fn assign(&mut self, it: Item, v: E) -> Result<E, Gone>
-        ensures { MatchResult result (λ old. Assigns self.old self.new it.serial old v) (λ why. Lacks self.old it.serial why × (self.new ≡ self.old)) }
+        ensures { MatchResult result (λ old. Assigns self.old self.new it.serial old v)
+            (λ why. Lacks self.old it.serial why × (self.new ≡ self.old)) }
     {
         self.chain.assign(it, v)
     }
@@ -149,7 +162,8 @@ impl<E: Drop> List<E> {
     ///
     /// As those of `del_item`.
     pub fn succ(&self, it: Item) -> Result<Option<Item>, Gone>
-        ensures { MatchResult result (λ r. IsBehind self.now it.serial r) (λ why. Lacks self.now it.serial why) }
+        ensures { MatchResult result (λ r. IsBehind self.now it.serial r)
+            (λ why. Lacks self.now it.serial why) }
     {
         self.item_beside(Side::Rear, it)
     }
@@ -160,7 +174,8 @@ impl<E: Drop> List<E> {
     ///
     /// As those of `del_item`.
     pub fn pred(&self, it: Item) -> Result<Option<Item>, Gone>
-        ensures { MatchResult result (λ r. IsBefore self.now it.serial r) (λ why. Lacks self.now it.serial why) }
+        ensures { MatchResult result (λ r. IsBefore self.now it.serial r)
+            (λ why. Lacks self.now it.serial why) }
     {
         self.item_beside(Side::Front, it)
     }
@@ -171,7 +186,8 @@ impl<E: Drop> List<E> {
     ///
     /// As those of `del_item`.
     pub fn cyclic_succ(&self, it: Item) -> Result<Item, Gone>
-        ensures { MatchResult result (λ r. IsCyclicBehind self.now it.serial r) (λ why. Lacks self.now it.serial why) }
+        ensures { MatchResult result (λ r. IsCyclicBehind self.now it.serial r)
+            (λ why. Lacks self.now it.serial why) }
     {
         self.item_round(Side::Rear, it)
     }
@@ -182,7 +198,8 @@ impl<E: Drop> List<E> {
     ///
     /// As those of `del_item`.
     pub fn cyclic_pred(&self, it: Item) -> Result<Item, Gone>
-        ensures { MatchResult result (λ r. IsCyclicBefore self.now it.serial r) (λ why. Lacks self.now it.serial why) }
+        ensures { MatchResult result (λ r. IsCyclicBefore self.now it.serial r)
+            (λ why. Lacks self.now it.serial why) }
     {
         self.item_round(Side::Front, it)
     }
@@ -193,7 +210,8 @@ impl<E: Drop> List<E> {
     ///
     /// As those of `del_item`.
     pub fn move_to_front(&mut self, it: Item) -> Result<(), Gone>
-        ensures { MatchResult result (λ _. MovesToFront self.old self.new it.serial) (λ why. Lacks self.old it.serial why × (self.new ≡ self.old)) }
+        ensures { MatchResult result (λ _. MovesToFront self.old self.new it.serial)
+            (λ why. Lacks self.old it.serial why × (self.new ≡ self.old)) }
     {
         self.move_to(Side::Front, it)
     }
@@ -204,7 +222,8 @@ impl<E: Drop> List<E> {
     ///
     /// As those of `del_item`.
     pub fn move_to_rear(&mut self, it: Item) -> Result<(), Gone>
-        ensures { MatchResult result (λ _. MovesToRear self.old self.new it.serial) (λ why. Lacks self.old it.serial why × (self.new ≡ self.old)) }
+        ensures { MatchResult result (λ _. MovesToRear self.old self.new it.serial)
+            (λ why. Lacks self.old it.serial why × (self.new ≡ self.old)) }
     {
         self.move_to(Side::Rear, it)
     }
@@ -242,7 +261,8 @@ impl<E: Drop> List<E> {
             HasItem self.old at.serial
             × Enters self.old self.new it
             (pairs_beside side at.serial (self.old.made + 1, v) self.old.pairs)) }
-        ensures err { IfErr result (λ why. ReturnsBeside self.old at.serial v why × (self.new ≡ self.old)) }
+        ensures err { IfErr result (λ why.
+            ReturnsBeside self.old at.serial v why × (self.new ≡ self.old)) }
     {
         self.chain.put_beside(side.of_chain(self.is_turned), at, v)
     }
@@ -260,7 +280,8 @@ impl<E: Drop> List<E> {
     }
 
     fn item_round(&self, side: Side, it: Item) -> Result<Item, Gone>
-        ensures { MatchResult result (IsCyclicBeside side self.now it.serial) (Lacks self.now it.serial) }
+        ensures { MatchResult result (IsCyclicBeside side self.now it.serial)
+            (Lacks self.now it.serial) }
     {
         self.chain.item_round(side.of_chain(self.is_turned), it)
     }

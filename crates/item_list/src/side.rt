@@ -30,7 +30,8 @@ impl Side {
 pub(crate) fn link_at(rings: &mut Rings, side: Side, head: Head, member: Member)
     requires head { IsHead rings.old head }
     requires member { IsLoose rings.old member }
-    ensures rings { rings.new.rings ≡ map.insert rings.old.rings head (with_at side member (ring rings.old head)) }
+    ensures rings { rings.new.rings
+        ≡ map.insert rings.old.rings head (with_at side member (ring rings.old head)) }
     ensures tags { rings.new.tags ≡ rings.old.tags }
     ensures apart { AreApart rings.new }
 {
@@ -44,8 +45,10 @@ pub(crate) fn link_at(rings: &mut Rings, side: Side, head: Head, member: Member)
 pub(crate) fn link_beside(rings: &mut Rings, side: Side, at: Member, member: Member)
     requires at { IsLinked rings.old at }
     requires member { IsLoose rings.old member }
-    ensures rings { (h : ℕ) → IsLinkedIn rings.old h at
-        → rings.new.rings ≡ map.insert rings.old.rings h (with_beside side at member (ring rings.old h)) }
+    ensures rings { (h : ℕ)
+        → IsLinkedIn rings.old h at
+        → rings.new.rings
+        ≡ map.insert rings.old.rings h (with_beside side at member (ring rings.old h)) }
     ensures tags { rings.new.tags ≡ rings.old.tags }
     ensures apart { AreApart rings.new }
 {
@@ -70,7 +73,8 @@ pub(crate) fn end_member(rings: &Rings, side: Side, head: Head) -> Option<Member
 pub(crate) fn member_beside(rings: &Rings, side: Side, member: Member) -> Option<Member>
     requires { IsLinked rings.now member }
     ensures { (h : ℕ) (before : List ℕ) (behind : List ℕ)
-        → StandsBetween rings.now h member before behind → result ≡ near side before behind }
+        → StandsBetween rings.now h member before behind
+        → result ≡ near side before behind }
 {
     match side {
         Side::Front => rings.prev(member),

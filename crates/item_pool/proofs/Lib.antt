@@ -4,11 +4,11 @@ pub mod Chains
 pub mod Ends
 pub mod Joins
 pub mod Lending
+pub mod OnePlace
 pub mod Opened
 pub mod PoolSteps
 pub mod Rooms
-pub mod Rows
 pub mod Seen
-pub mod Steps
 pub mod Sure
 pub mod Tables
+pub mod WalkNames

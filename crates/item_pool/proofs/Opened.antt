@@ -23,7 +23,7 @@ use Rattle.core.proofs.mem.Param.{El, R, el_x}
 use Rattle.core.proofs.ptr.Rows.{times_below}
 use Rattle.item_pool.specs.Ownership.{place, places, row_lent, places_owned, places_lent}
 use Rattle.item_pool.specs.PlaceLent.{with_row}
-use Rattle.item_pool.proofs.Rows.{Pl, Mark, Place, size, others, place_out, place_in}
+use Rattle.item_pool.proofs.OnePlace.{Pl, Mark, Place, size, others, place_out, place_in}
 
 pub near : (i n s : ℕ) → i < n → n * s < 2 ^ 63 → i * s < 2 ^ 64
 near i n s there small = let below = times_below i n s (2 ^ 63) (omega arith) small in omega arith

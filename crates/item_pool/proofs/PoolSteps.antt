@@ -4,6 +4,7 @@ use Rattle.std.proofs.lemmas.Bool.{cases_lt}
 use Rattle.std.specs.Ordering.{nat_cmp}
 use Rattle.item_pool.proofs.Seen.{live_append}
 use Rattle.std.specs.FinMap as map
+use Rattle.item_pool.specs.declared.pool.TheConstants.{MOST_SERIALS}
 use Rattle.item_pool.specs.declared.block.Cell.{Cell}
 use Rattle.item_pool.specs.declared.pool.Pool.TheInside.{Inside}
 use Rattle.item_pool.specs.CellsKept.{cell_at, live_of, IsFree, IsTable, IsChain, IsGrown}
@@ -15,12 +16,13 @@ use Rattle.item_pool.proofs.Blocks.{length-chained, chained_value, chained_numbe
 use Rattle.item_pool.proofs.Joins.{at_left, at_right}
 use Rattle.item_pool.specs.IsPool.{IsPool}
 use Rattle.item_pool.proofs.Chains.{chain_pop, chain_push, chain_write, chain_grow}
-use Rattle.item_pool.proofs.Seen.{seen_some, seen_new, live_insert, live_remove, len_insert, len_remove, len_same, at_set, at_other}
+use Rattle.item_pool.specs.Contents.{contents, IsWithin}
+use Rattle.item_pool.proofs.Seen.{seen_some, seen_new, seen_given, live_insert, live_remove, len_insert, len_remove, len_same, at_set, at_other}
 use Rattle.item_pool.proofs.Tables.{table_put, table_take, table_write, table_grow}
 
 module _ {X : Type 0} where
   -- a value comes in
-  module _ (p q : Inside X) (is : IsPool p) (y : X) (pos : 0 < p.free) (room : p.made < 16777215)
+  module _ (p q : Inside X) (is : IsPool p) (y : X) (pos : 0 < p.free) (room : p.made < MOST_SERIALS)
       (cells : q.cells ≡ set p.cells p.first (record { number = p.made + 1; link = (cell_at p.cells p.first).link; value = Some y }))
       (first : q.first ≡ (cell_at p.cells p.first).link) (free : q.free ≡ p.free - 1) (live : q.live ≡ p.live + 1) (made : q.made ≡ p.made + 1)
       (next : q.table.next ≡ p.table.next + 1) (entry : Sets (slot_of p.table) (slot_of q.table) p.table.next (Some p.first)) where
@@ -113,7 +115,7 @@ module _ {X : Type 0} where
       chain = subst (λ n. IsChain (cell_at q.cells) n q.first q.free) (sym length_is) (subst (λ f. IsChain (cell_at q.cells) (length p.cells) f q.free) (sym first) (subst (λ f. IsChain (cell_at q.cells) (length p.cells) slot f) (sym free) chain_left));
       counted = let c : p.live ≡ map.len (live_of p.cells) = is.counted in omega (arith, fewer);
       total = let c : p.live ≡ map.len (live_of p.cells) = is.counted in let t : p.free + p.live ≡ length p.cells = is.total in omega (arith, fewer, length_is);
-      few = (let low : p.live ≤ p.made = is.few.0 in omega arith, let most : p.made ≤ 16777215 = is.few.1 in omega arith);
+      few = (let low : p.live ≤ p.made = is.few.0 in omega arith, let most : p.made ≤ MOST_SERIALS = is.few.1 in omega arith);
       short = let l : length p.cells < 2 ^ 27 = is.short in subst (λ n. n < 2 ^ 27) (sym length_is) l;
     }
 
@@ -158,7 +160,7 @@ module _ {X : Type 0} where
       chain = subst (λ n. IsChain (cell_at q.cells) n q.first q.free) (sym as_long) (subst (λ f. IsChain (cell_at q.cells) (length p.cells) f q.free) (sym first) (subst (λ f. IsChain (cell_at q.cells) (length p.cells) p.first f) (sym free) chain_kept));
       counted = live ∙ is.counted ∙ sym as_many;
       total = let t : p.free + p.live ≡ length p.cells = is.total in omega (arith, as_long);
-      few = (let low : p.live ≤ p.made = is.few.0 in omega arith, let most : p.made ≤ 16777215 = is.few.1 in omega arith);
+      few = (let low : p.live ≤ p.made = is.few.0 in omega arith, let most : p.made ≤ MOST_SERIALS = is.few.1 in omega arith);
       short = let l : length p.cells < 2 ^ 27 = is.short in subst (λ n. n < 2 ^ 27) (sym as_long) l;
     }
 
@@ -171,6 +173,10 @@ module _ {X : Type 0} where
   past_end [] i h = refl
   past_end (c ∷ cells) zero h = absurd (omega arith)
   past_end (c ∷ cells) (suc i) h = past_end cells i (omega arith)
+
+  -- each live serial was made
+  pub pool_within : (p : Inside X) → IsPool p → (spare : ℕ) → IsWithin (contents (live_of p.cells) p.made spare)
+  pool_within p is spare = (λ s x e. seen_given p.cells (slot_of p.table) p.made is.table s x e, is.few.1)
 
   -- where a serial is live, there is a live value
   pub some_live : (p : Inside X) → IsPool p → (s i : ℕ) → slot_of p.table s ≡ Some i → 1 ≤ p.live
@@ -265,6 +271,6 @@ module _ {X : Type 0} where
       chain = chain;
       counted = live ∙ is.counted ∙ sym (ap map.len grown.live);
       total = omega arith;
-      few = (let low : p.live ≤ p.made = is.few.0 in omega arith, let most : p.made ≤ 16777215 = is.few.1 in omega arith);
+      few = (let low : p.live ≤ p.made = is.few.0 in omega arith, let most : p.made ≤ MOST_SERIALS = is.few.1 in omega arith);
       short = short;
     }

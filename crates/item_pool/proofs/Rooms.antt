@@ -46,7 +46,7 @@ use Rattle.item_pool.specs.Ownership.{places, places_owned, deed_owned}
 use Rattle.item_pool.specs.contracts.places.Places as P-type
 use Rattle.item_pool.specs.contracts.places.Deed as D-type
 use Rattle.item_pool.specs.contracts.places.Start as S-type
-use Rattle.item_pool.proofs.Rows.{Pl, St, size, Place, mark, room_to_row, row_to_room}
+use Rattle.item_pool.proofs.OnePlace.{Pl, St, size, Place, mark, room_to_row, row_to_room}
 
 module _ (E : El) (Z : Al) where
   abbrev pub De : RattleType

@@ -1,4 +1,4 @@
--- What a block is once a `&mut` into it has ended.
+-- Private: what a block is once a `&mut` into it has ended.
 use Rattle.std.specs.Prelude.{ℕ, List, slice_set}
 use Rattle.std.specs.Borrow.{Fml, RattleType, MutBor, Lends}
 use Rattle.item_pool.specs.declared.block.Cell.{Cell}

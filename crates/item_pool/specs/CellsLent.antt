@@ -1,4 +1,4 @@
--- What the cells are once a `&mut` to one of them has ended.
+-- Private: what the cells are once a `&mut` to one of them has ended.
 use Rattle.std.specs.Prelude.{ℕ, List, slice_set}
 use Rattle.std.specs.Borrow.{Fml, RattleType, MutBor, Lends}
 use Rattle.item_pool.specs.declared.block.Cell.{Cell}

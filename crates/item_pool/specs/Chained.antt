@@ -1,4 +1,4 @@
--- Free cells, as they come with a block.
+-- Private: free cells, as they come with a block.
 use Rattle.std.specs.Prelude.{ℕ, ◌+◌, zero, suc, List, [], ◌∷◌, None}
 use Rattle.item_pool.specs.declared.block.Cell.{Cell}
 

@@ -3,6 +3,7 @@ use Rattle.std.specs.Prelude.{◌≡◌, ℕ, ◌+◌, ◌<◌, ◌≤◌, ◌�
 use Rattle.std.specs.Coded.{Coded, code_by, coded×, coded_ℕ}
 use Rattle.std.specs.Ordering.{nat_cmp}
 use Rattle.std.specs.FinMap as map
+use Rattle.item_pool.specs.declared.pool.TheConstants.{MOST_SERIALS}
 use Rattle.item_pool.specs.declared.pool.Gone.{Gone}
 use Rattle.item_pool.specs.declared.pool.Gone.TheVariants.{Dead, Unknown}
 use Rattle.item_pool.specs.declared.pool.Item.{Item}
@@ -41,7 +42,7 @@ module _ {X : Type 0} where
 
   -- each live serial was made
   abbrev pub IsWithin : Contents X → Type 0
-  IsWithin p = ((s : ℕ) (x : X) → map.get p.live s ≡ Some x → (0 < s) × (s ≤ p.made)) × (p.made ≤ 16777215)
+  IsWithin p = ((s : ℕ) (x : X) → map.get p.live s ≡ Some x → (0 < s) × (s ≤ p.made)) × (p.made ≤ MOST_SERIALS)
 
   -- p with x under the next serial is q
   pub record Inserts (p q : Contents X) (it : Item) (x : X) : Type 0 where
@@ -50,12 +51,12 @@ module _ {X : Type 0} where
     pub live : q.live ≡ map.insert p.live (p.made + 1) x
     pub made : q.made ≡ p.made + 1
     pub spare : p.spare ≤ q.spare + 1
-    pub within : p.made < 16777215
+    pub within : p.made < MOST_SERIALS
 
   -- x comes back: spent where each serial was given, and else for want of memory
   abbrev pub Returns : Contents X → X → InsertRefusal X → Type 0
-  Returns p x (NoMemory y) = (y ≡ x) × (p.made < 16777215) × (p.spare ≡ 0)
-  Returns p x (Spent y) = (y ≡ x) × (p.made ≡ 16777215)
+  Returns p x (NoMemory y) = (y ≡ x) × (p.made < MOST_SERIALS) × (p.spare ≡ 0)
+  Returns p x (Spent y) = (y ≡ x) × (p.made ≡ MOST_SERIALS)
 
   -- p is as it was, but that it may have more room
   abbrev pub IsAsBefore : Contents X → Contents X → Type 0

@@ -1,4 +1,4 @@
--- Which places of a row hold a value.
+-- Private: which places of a row hold a value.
 use Rattle.std.specs.Prelude.{◌≡◌, ℕ, get_or, List, [], ◌∷◌, Option, Some, None}
 
 module _ {X : Type 0} where

@@ -1,5 +1,5 @@
--- Where the homes of serials are, and which serials are at home.
-use Rattle.std.specs.Prelude.{ℕ, ◌≢◌, ◌+◌, ◌%◌, ◌<◌, ◌≤◌, List, length, get_or, nat_eq, if◌then◌else◌, Option, Some, None}
+-- Private: where the homes of serials are, and which serials are at home.
+use Rattle.std.specs.Prelude.{ℕ, ◌≢◌, ◌+◌, ◌%◌, ◌<◌, ◌≤◌, List, length, get_or, slice_set, nat_eq, if◌then◌else◌, Option, Some, None}
 use Rattle.std.specs.Int.{IsPowerOfTwo}
 use Rattle.item_pool.specs.declared.homes.Home.{Home}
 
@@ -25,6 +25,10 @@ at_home places s = slot_in (home_at places s) s
 -- the serial s has a home, and nobody is at home there: who lies there, if any, has another home
 abbrev pub IsFree : List Home → ℕ → Type 0
 IsFree places s = let k = (home_at places s).serial in (0 < length places) × ((k ≢ 0) → (k % length places) ≢ (s % length places))
+
+-- the homes with the serial s in its own
+abbrev pub settled : List Home → ℕ → ℕ → List Home
+settled places s slot = slice_set places (s % length places) (record { serial = s; slot = slot })
 
 -- the n serials from s on have homes of their own, at which nobody is
 pub record AreFree (places : List Home) (s n : ℕ) : Type 0 where

@@ -1,4 +1,4 @@
--- What holds of the fields of a block.
+-- Private: what holds of the fields of a block.
 use Rattle.std.specs.Prelude.{◌≡◌, map, length, Some}
 use Rattle.item_pool.specs.Filled.{somes}
 use Rattle.item_pool.specs.declared.block.Block.TheInside.{Inside}

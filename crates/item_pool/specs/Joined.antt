@@ -1,4 +1,4 @@
--- Many blocks as one list of cells.
+-- Private: many blocks as one list of cells.
 use Rattle.std.specs.Prelude.{◌≡◌, ℕ, zero, suc, ◌+◌, ◌<◌, List, [], ◌∷◌, ◌++◌, length}
 
 -- how many elements the block with the number k has, where the first has n, and each other twice as many as the one

@@ -1,4 +1,4 @@
--- What a look for a serial finds, as a function from serials to slots.
+-- Private: what a look for a serial finds, as a function from serials to slots.
 use Rattle.std.specs.Prelude.{◌≡◌, ℕ, ◌≢◌, Option, Some, None}
 
 -- g has v at s, and all else as f has it

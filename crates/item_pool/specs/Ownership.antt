@@ -1,4 +1,4 @@
--- What the owner of a block's places owns and lends, at values of the type R.
+-- Private: what the owner of a block's places owns and lends, at values of the type R.
 use Rattle.std.specs.Prelude.{ℕ, ◌+◌, ◌*◌, ◌^◌, List, [], ◌∷◌, length, Option, Some, None}
 use Rattle.std.specs.Mem.{type_size}
 use base.Fraction.{full_share}

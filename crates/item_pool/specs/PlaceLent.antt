@@ -1,4 +1,4 @@
--- What the places are once a `&mut` into one of them has ended.
+-- Private: what the places are once a `&mut` into one of them has ended.
 use Rattle.std.specs.Prelude.{ℕ, List, slice_set, Option, Some}
 use Rattle.std.specs.Borrow.{Fml, RattleType, MutBor, Lends}
 use Rattle.item_pool.specs.declared.places.Places.{Places}

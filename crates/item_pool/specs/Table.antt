@@ -1,4 +1,4 @@
--- What a table has at a serial.
+-- Private: what a table has at a serial.
 use Rattle.std.specs.Prelude.{ℕ, nat_eq, Option}
 use Rattle.std.specs.Option.{option_or}
 use Rattle.std.specs.HashMap.{get}

@@ -1,7 +1,7 @@
 //! Homes: a serial's last bits say where it may lie with its slot, and one serial can lie there.
-ghost use Rattle.std.specs.Prelude.{◌≡◌, ℕ, ◌+◌, ◌*◌, ◌%◌, ◌^◌, ◌<◌, length, slice_set, nat_eq, if◌then◌else◌, ◌↔◌, Some, None, OnOk, IsTrue, IsFalse, IsSome};
+ghost use Rattle.std.specs.Prelude.{◌≡◌, ℕ, ◌+◌, ◌*◌, ◌%◌, ◌^◌, ◌<◌, length, nat_eq, if◌then◌else◌, ◌↔◌, Some, None, OnOk, IsTrue, IsFalse, IsSome};
 ghost use Rattle.std.specs.Int.{IsPowerOfTwo};
-ghost use Rattle.item_pool.specs.Homes.{at_home, IsFree, AreFree, StayFree};
+ghost use Rattle.item_pool.specs.Homes.{at_home, settled, IsFree, AreFree, StayFree};
 ghost use Rattle.item_pool.specs.Lookups.{Sets};
 
 use std::alloc::{AllocError, Global};
@@ -110,9 +110,9 @@ impl Homes {
     pub(crate) fn settle(&mut self, serial: u32, slot: u32) -> bool
         requires { 0 < serial }
         ensures free { IsTrue result ↔ IsFree self.old serial }
-        ensures settled { IsTrue result → Sets (at_home self.old) (at_home self.new) serial (Some slot) }
-        ensures placed { IsTrue result → self.new
-            ≡ slice_set self.old (serial % length self.old) (record { serial = serial; slot = slot }) }
+        ensures settled { IsTrue result
+            → Sets (at_home self.old) (at_home self.new) serial (Some slot) }
+        ensures placed { IsTrue result → self.new ≡ settled self.old serial slot }
         ensures taken { IsFalse result → self.new ≡ self.old }
     {
         if !self.is_free(serial) {
@@ -156,7 +156,9 @@ impl Homes {
     fn double(&mut self) -> Result<(), AllocError>
         ensures kept { (s : ℕ) → at_home self.new s ≡ at_home self.old s }
         ensures free { StayFree self.old self.new }
-        ensures ok { OnOk result (length self.new ≡ (if nat_eq (length self.old) 0 then 64 else 2 * length self.old)) }
+        ensures ok { OnOk result
+            (length self.new
+            ≡ (if nat_eq (length self.old) 0 then 64 else 2 * length self.old)) }
     {
         if self.places.is_empty() {
             self.places.resize(FIRST_HOMES, NOBODY)

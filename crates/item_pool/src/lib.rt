@@ -32,14 +32,4 @@ mod table;
 #[cfg(test)]
 mod tests;
 
-#[doc(hidden)]
-pub use block::{Block, Cell};
-#[doc(hidden)]
-pub use cells::Cells;
-#[doc(hidden)]
-pub use homes::{Home, Homes};
-#[doc(hidden)]
-pub use places::{Deed, Places, Start};
 pub use pool::{Gone, InsertRefusal, Item, MOST_SERIALS, Pool, ReserveRefusal};
-#[doc(hidden)]
-pub use table::Table;

@@ -65,7 +65,12 @@ pub(crate) fn allocate<T, A: Allocator>(
     len: usize,
 ) -> Result<(Start<T>, Places<T>, Deed<T, A>), AllocError>
     requires { FitsInBlock T.row len }
-    ensures { IfOk result (λ r. (r.1.at ≡ r.0.ptr) × (r.1.row ≡ replicate len None) × (r.2.at ≡ r.0.ptr) × (r.2.len ≡ len) × (r.2.alloc ≡ alloc.now)) }
+    ensures { IfOk result (λ r.
+        (r.1.at ≡ r.0.ptr)
+        × (r.1.row ≡ replicate len None)
+        × (r.2.at ≡ r.0.ptr)
+        × (r.2.len ≡ len)
+        × (r.2.alloc ≡ alloc.now)) }
 {
     let Ok(block) = alloc.allocate(len * size_of::<T>(), align_of::<T>()) else {
         return Err(AllocError);
@@ -88,7 +93,11 @@ pub(crate) fn deallocate<T, A: Allocator>(
     places: Places<T>,
     deed: Deed<T, A>,
 )
-    requires { (places.at ≡ start.ptr) × (places.row ≡ replicate len None) × (deed.at ≡ start.ptr) × (deed.len ≡ len) × (deed.alloc ≡ alloc.now) }
+    requires { (places.at ≡ start.ptr)
+        × (places.row ≡ replicate len None)
+        × (deed.at ≡ start.ptr)
+        × (deed.len ≡ len)
+        × (deed.alloc ≡ alloc.now) }
 {
     let Places { mark: _ } = places;
     let Deed { mark: _ } = deed;
@@ -102,8 +111,11 @@ impl<T> Places<T> {
 
     /// Puts a value into an empty place.
     pub(crate) fn fill(&mut self, start: Start<T>, index: usize, value: T)
-        requires { (start.ptr ≡ self.old.at) × (index < length self.old.row) × (get_or self.old.row index None ≡ None) }
-        ensures { (self.new.at ≡ self.old.at) × (self.new.row ≡ slice_set self.old.row index (Some value)) }
+        requires { (start.ptr ≡ self.old.at)
+            × (index < length self.old.row)
+            × (get_or self.old.row index None ≡ None) }
+        ensures { (self.new.at ≡ self.old.at)
+            × (self.new.row ≡ slice_set self.old.row index (Some value)) }
     {
         unsafe { start.ptr.add(index).write(value) }
     }
@@ -112,7 +124,8 @@ impl<T> Places<T> {
     pub(crate) fn take(&mut self, start: Start<T>, index: usize) -> T
         requires { (start.ptr ≡ self.old.at) × IsFilled self.old.row index }
         ensures value { get_or self.old.row index None ≡ Some result }
-        ensures row { (self.new.at ≡ self.old.at) × (self.new.row ≡ slice_set self.old.row index None) }
+        ensures row { (self.new.at ≡ self.old.at)
+            × (self.new.row ≡ slice_set self.old.row index None) }
     {
         unsafe { start.ptr.add(index).read() }
     }

@@ -89,7 +89,10 @@ impl<T> Model for Pool<T> {
 #[inline]
 fn is_there<T>(cells: &Cells<T>, len: u32, it: Item) -> bool
     requires { len ≡ length cells.now }
-    ensures { IsTrue result ↔ (it.slot < length cells.now) × ((cell_at cells.now it.slot).number ≡ it.serial) × IsSome (cell_at cells.now it.slot).value }
+    ensures { IsTrue result
+        ↔ (it.slot < length cells.now)
+        × ((cell_at cells.now it.slot).number ≡ it.serial)
+        × IsSome (cell_at cells.now it.slot).value }
 {
     if it.slot < len {
         let cell = cells.get(it.slot);
@@ -103,7 +106,9 @@ fn is_there<T>(cells: &Cells<T>, len: u32, it: Item) -> bool
 #[inline]
 fn find<T>(cells: &Cells<T>, table: &Table, len: u32, it: Item) -> Option<u32>
     requires len { len ≡ length cells.now }
-    requires listed { (i s : ℕ) (x : T) → IsLive (cell_at cells.now) i s x → slot_of table.now s ≡ Some i }
+    requires listed { (i s : ℕ) (x : T)
+        → IsLive (cell_at cells.now) i s x
+        → slot_of table.now s ≡ Some i }
     ensures { result ≡ slot_of table.now it.serial }
 {
     if is_there(cells, len, it) {
@@ -119,8 +124,11 @@ fn find<T>(cells: &Cells<T>, table: &Table, len: u32, it: Item) -> Option<u32>
 fn look<'a, T>(cells: &'a Cells<T>, table: &Table, len: u32, it: Item) -> Option<&'a Cell<T>>
     requires len { len ≡ length cells.now }
     requires within { (s i : ℕ) → slot_of table.now s ≡ Some i → i < length cells.now }
-    requires listed { (i s : ℕ) (x : T) → IsLive (cell_at cells.now) i s x → slot_of table.now s ≡ Some i }
-    ensures { MatchOption result (slot_of table.now it.serial ≡ None) (λ cell. (i : ℕ) × (slot_of table.now it.serial ≡ Some i) × (cell.now ≡ cell_at cells.now i)) }
+    requires listed { (i s : ℕ) (x : T)
+        → IsLive (cell_at cells.now) i s x
+        → slot_of table.now s ≡ Some i }
+    ensures { MatchOption result (slot_of table.now it.serial ≡ None) (λ cell.
+        (i : ℕ) × (slot_of table.now it.serial ≡ Some i) × (cell.now ≡ cell_at cells.now i)) }
 {
     if is_there(cells, len, it) {
         return Some(cells.get(it.slot));
@@ -146,7 +154,10 @@ fn why_gone(made: u32, serial: u32) -> Gone
 fn occupy<T>(cells: &mut Cells<T>, slot: u32, serial: u32, value: T) -> u32
     requires slot { slot < length cells.old }
     requires free { (cell_at cells.old slot).value ≡ None }
-    ensures cells { cells.new ≡ slice_set cells.old slot (record { number = serial; link = (cell_at cells.old slot).link; value = Some value }) }
+    ensures cells { let link = (cell_at cells.old slot).link in
+        cells.new
+        ≡ slice_set cells.old slot
+        (record { number = serial; link = link; value = Some value }) }
     ensures link { result ≡ (cell_at cells.old slot).link }
 {
     let cell = cells.get_mut(slot);
@@ -162,7 +173,8 @@ fn occupy<T>(cells: &mut Cells<T>, slot: u32, serial: u32, value: T) -> u32
 fn vacate<T>(cells: &mut Cells<T>, slot: u32, number: u32, link: u32) -> T
     requires slot { slot < length cells.old }
     requires live { IsSome (cell_at cells.old slot).value }
-    ensures cells { cells.new ≡ slice_set cells.old slot (record { number = number; link = link; value = None }) }
+    ensures cells { cells.new
+        ≡ slice_set cells.old slot (record { number = number; link = link; value = None }) }
     ensures value { (cell_at cells.old slot).value ≡ Some result }
 {
     let cell = cells.get_mut(slot);
@@ -185,7 +197,7 @@ fn add_cells<T>(
 ) -> Result<(), ReserveRefusal>
     requires chain { IsChain (cell_at cells.old) (length cells.old) first.old free.old }
     requires total { free.old + live ≡ length cells.old }
-    requires few { (n ≤ 16777215) × (live ≤ 16777215) × (length cells.old < 2 ^ 27) }
+    requires few { (n ≤ MOST_SERIALS) × (live ≤ MOST_SERIALS) × (length cells.old < 2 ^ 27) }
     ensures chain { IsChain (cell_at cells.new) (length cells.new) first.new free.new }
     ensures total { (free.new + live ≡ length cells.new) × (length cells.new < 2 ^ 27) }
     ensures live { IsGrown cells.old cells.new }
@@ -231,7 +243,7 @@ impl<T> Pool<T> {
     /// `NoMemory` where there is no memory, which isn't so where there is room for `n` already. The
     /// values are as before, and there is no less room.
     pub fn reserve(&mut self, n: u32) -> Result<(), ReserveRefusal>
-        requires { n ≤ 16777215 }
+        requires { n ≤ MOST_SERIALS }
         ensures kept { IsAsBefore self.old self.new }
         ensures ok { OnOk result (n ≤ self.new.spare) }
         ensures succeeds { n ≤ self.old.spare → IsOk result }
@@ -272,7 +284,7 @@ impl<T> Pool<T> {
     /// Takes a value in under the next serial, in room that there is. It can't be refused.
     pub fn insert_reserved(&mut self, value: T) -> Item
         requires spare { 0 < self.old.spare }
-        requires made { self.old.made < 16777215 }
+        requires made { self.old.made < MOST_SERIALS }
         ensures { Inserts self.old self.new result value }
     {
         let slot = self.first;
@@ -294,7 +306,8 @@ impl<T> Pool<T> {
     /// is 0 or above.
     #[inline]
     pub fn get(&self, it: Item) -> Result<&T, Gone>
-        ensures { MatchResult result (λ v. Holds self.now it.serial v.now) (λ why. Lacks self.now it.serial why) }
+        ensures { MatchResult result (λ v. Holds self.now it.serial v.now)
+            (λ why. Lacks self.now it.serial why) }
     {
         match look(&self.cells, &self.table, self.free + self.live, it) {
             Some(cell) => match cell.value.as_ref() {
@@ -313,7 +326,8 @@ impl<T> Pool<T> {
     #[inline]
     pub fn get_mut(&mut self, it: Item) -> Result<&mut T, Gone>
         ensures* writes_back { sem 𝓛 (lends_value T.row self.entry it.serial result) }
-        ensures value { MatchResult result (λ v. Holds self.old it.serial v.now) (λ why. Lacks self.old it.serial why) }
+        ensures value { MatchResult result (λ v. Holds self.old it.serial v.now)
+            (λ why. Lacks self.old it.serial why) }
     {
         match find(&self.cells, &self.table, self.free + self.live, it) {
             Some(slot) => {
@@ -333,7 +347,8 @@ impl<T> Pool<T> {
     ///
     /// As those of `get`. The pool is then as it was.
     pub fn remove(&mut self, it: Item) -> Result<T, Gone>
-        ensures { MatchResult result (λ v. Removes self.old self.new it.serial v) (λ why. Lacks self.old it.serial why × (self.new ≡ self.old)) }
+        ensures { MatchResult result (λ v. Removes self.old self.new it.serial v)
+            (λ why. Lacks self.old it.serial why × (self.new ≡ self.old)) }
     {
         match find(&self.cells, &self.table, self.free + self.live, it) {
             Some(slot) => {
@@ -354,7 +369,8 @@ impl<T> Pool<T> {
     ///
     /// As those of `get`.
     pub fn item(&self, serial: u32) -> Result<Item, Gone>
-        ensures { MatchResult result (λ it. (it.serial ≡ serial) × HasLive self.now serial) (λ why. Lacks self.now serial why) }
+        ensures { MatchResult result (λ it. (it.serial ≡ serial) × HasLive self.now serial)
+            (λ why. Lacks self.now serial why) }
     {
         match self.table.get(serial) {
             Some(slot) => Ok(Item { slot, serial }),
@@ -366,7 +382,8 @@ impl<T> Pool<T> {
     #[inline]
     pub fn len(&self) -> u32
         ensures len { result ≡ map.len self.now.live }
-        ensures within { result ≤ self.now.made }
+        ensures few { result ≤ self.now.made }
+        ensures within { IsWithin self.now }
     {
         self.live
     }

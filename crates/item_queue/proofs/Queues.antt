@@ -3,6 +3,7 @@ use Rattle.std.proofs.Common.{◌≡◌, ℕ, ◌+◌, ◌<◌, ◌≤◌, ◌�
 use Rattle.std.specs.Prelude.{ℤ}
 use Rattle.std.proofs.lemmas.Bool.{cases_eq}
 use Rattle.std.specs.FinMap as map
+use Rattle.item_pool.specs.declared.pool.TheConstants.{MOST_SERIALS}
 use Rattle.item_pool.specs.Contents.{Contents, contents, Inserts as PoolInserts, Removes as PoolRemoves}
 use Rattle.item_queue.specs.declared.node.Node.{Node}
 use Rattle.item_queue.specs.declared.node.Entry.{Entry}
@@ -45,7 +46,7 @@ module _ {X : Type 0} where
           placed = λ s e at. let f = is.tied.placed s e (sym (entries s) ∙ at) in (f.0, live_in g h.nodes.items h.len nodes len f.0 f.1, f.2);
         };
         given = λ s e at. let i = is.given s e (sym (entries s) ∙ at) in (i.0, subst (λ m. s ≤ m) (sym made) i.1);
-        few = (let size = ap length nodes in let few : length h.nodes.items ≤ p.pool.made = is.few.0 in omega (arith, size, few, made), subst (λ m. m ≤ 16777215) (sym made) is.few.1);
+        few = (let size = ap length nodes in let few : length h.nodes.items ≤ p.pool.made = is.few.0 in omega (arith, size, few, made), subst (λ m. m ≤ MOST_SERIALS) (sym made) is.few.1);
       }
 
   -- a node and its entry come in

@@ -3,6 +3,7 @@ use Rattle.std.specs.Prelude.{◌≡◌, ℕ, ℤ, ◌+◌, ◌<◌, ◌≤◌, 
 use Rattle.std.specs.Coded.{Coded, code_by, coded×, coded_ℕ, coded_ℤ}
 use Rattle.std.specs.Ordering.{nat_cmp}
 use Rattle.std.specs.FinMap as map
+use Rattle.item_pool.specs.declared.pool.TheConstants.{MOST_SERIALS}
 use Rattle.item_pool.specs.declared.pool.Gone.{Gone}
 use Rattle.item_pool.specs.declared.pool.Item.{Item}
 use Rattle.item_pool.specs.declared.pool.InsertRefusal.{InsertRefusal}
@@ -57,12 +58,12 @@ module _ {X : Type 0} where
     pub live : r.live ≡ map.insert q.live (q.made + 1) (p, x)
     pub made : r.made ≡ q.made + 1
     pub spare : q.spare ≤ r.spare + 1
-    pub within : q.made < 16777215
+    pub within : q.made < MOST_SERIALS
 
   -- x comes back: spent where each serial was given, and else for want of memory
   abbrev pub Returns : Queued X → X → InsertRefusal X → Type 0
-  Returns q x (NoMemory y) = (y ≡ x) × (q.made < 16777215) × (q.spare ≡ 0)
-  Returns q x (Spent y) = (y ≡ x) × (q.made ≡ 16777215)
+  Returns q x (NoMemory y) = (y ≡ x) × (q.made < MOST_SERIALS) × (q.spare ≡ 0)
+  Returns q x (Spent y) = (y ≡ x) × (q.made ≡ MOST_SERIALS)
 
   abbrev pub Refuses : Queued X → Queued X → X → InsertRefusal X → Type 0
   Refuses q r x why = Returns q x why × IsAsBefore q r

@@ -1,7 +1,8 @@
--- What holds of the fields of a queue, and what a contract sees of them.
+-- Private: what holds of the fields of a queue, and what a contract sees of them.
 use Rattle.std.specs.Prelude.{◌≡◌, ℕ, ℤ, ◌<◌, ◌≤◌, List, [], ◌∷◌, length, min, Some}
 use Rattle.std.specs.Ordering.{nat_cmp}
 use Rattle.std.specs.FinMap as map
+use Rattle.item_pool.specs.declared.pool.TheConstants.{MOST_SERIALS}
 use Rattle.item_queue.specs.declared.node.Entry.{Entry}
 use Rattle.item_queue.specs.declared.queue.Queue.TheInside.{Inside}
 use Rattle.item_queue.specs.Contents.{Queued, queued}
@@ -23,4 +24,4 @@ pub record IsQueue {X : Type 0} (q : Inside X) : Type 0 where
   pub sound : IsSound q.heap
   pub tied : IsTied q.heap (entry_of q.pool)
   pub given : (s : ℕ) (e : Entry X) → entry_of q.pool s ≡ Some e → (0 < s) × (s ≤ q.pool.made)
-  pub few : (length q.heap.nodes.items ≤ q.pool.made) × (q.pool.made ≤ 16777215)
+  pub few : (length q.heap.nodes.items ≤ q.pool.made) × (q.pool.made ≤ MOST_SERIALS)

@@ -6,8 +6,8 @@ ghost use Rattle.item_queue.specs.Order.{IsBelow, IsAtMost, IsInOrder};
 use item_pool::Item;
 use std::alloc::{AllocError, Global};
 
-/// A node of the heap. It has the priority of its item, so that nodes are compared with no look into the pool, and a
-/// handle by which its place is found.
+/// A node of the heap. It has the priority of its item, so that nodes are compared with no look
+/// into the pool, and a handle by which its place is found.
 #[derive(Clone, Copy, Drop)]
 pub struct Node {
     pub priority: i64,

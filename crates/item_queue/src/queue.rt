@@ -23,9 +23,9 @@ pub enum DecreaseRefusal {
 
 /// A queue of values by priority. Each item has a priority and an information.
 ///
-/// A clause sees the priority and the information of each item by its serial, how many serials were made, and how many
-/// items can come in before there has to be more memory. Of two items of one priority the one of the lesser serial goes
-/// first.
+/// A clause sees the priority and the information of each item by its serial, how many serials were
+/// made, and how many items can come in before there has to be more memory. Of two items of one
+/// priority the one of the lesser serial goes first.
 #[derive(Drop)]
 pub struct Queue<I> {
     heap: Heap,
@@ -64,10 +64,10 @@ impl<I: Drop> Queue<I> {
     ///
     /// # Errors
     ///
-    /// `NoMemory` where there is no memory, which isn't so where there is room for `n` already. The items are as before,
-    /// and there is no less room.
+    /// `NoMemory` where there is no memory, which isn't so where there is room for `n` already. The
+    /// items are as before, and there is no less room.
     pub fn reserve(&mut self, n: u32) -> Result<(), NoMemory>
-        requires { n ≤ 16777215 }
+        requires { n ≤ MOST_SERIALS }
         ensures kept { IsAsBefore self.old self.new }
         ensures ok { OnOk result (n ≤ self.new.spare) }
         ensures succeeds { n ≤ self.old.spare → IsOk result }
@@ -78,11 +78,11 @@ impl<I: Drop> Queue<I> {
         Ok(())
     }
 
-    /// Takes a value in under the next serial, with the priority `p`, in room that there is. It can't be refused. The
-    /// work is logarithmic in the number of items.
+    /// Takes a value in under the next serial, with the priority `p`, in room that there is. It
+    /// can't be refused. The work is logarithmic in the number of items.
     pub fn insert_reserved(&mut self, p: i64, i: I) -> Item
         requires spare { 0 < self.old.spare }
-        requires made { self.old.made < 16777215 }
+        requires made { self.old.made < MOST_SERIALS }
         ensures { Inserts self.old self.new result p i }
     {
         let handle = self.heap.next_handle();
@@ -99,12 +99,14 @@ impl<I: Drop> Queue<I> {
         item
     }
 
-    /// Takes a value in under the next serial, with the priority `p`. The work is logarithmic in the number of items.
+    /// Takes a value in under the next serial, with the priority `p`. The work is logarithmic in
+    /// the number of items.
     ///
     /// # Errors
     ///
-    /// `Spent` exactly where 16,777,215 serials were made, and `NoMemory` where there is no memory, which isn't so where
-    /// there is room to spare. The value comes back, and the others are as before.
+    /// `Spent` exactly where 16,777,215 serials were made, and `NoMemory` where there is no memory,
+    /// which isn't so where there is room to spare. The value comes back, and the others are as
+    /// before.
     pub fn insert(&mut self, p: i64, i: I) -> Result<Item, InsertRefusal<I>>
         ensures ok { IfOk result (λ it. Inserts self.old self.new it p i) }
         ensures err { IfErr result (λ why. Refuses self.old self.new i why) }
@@ -118,10 +120,12 @@ impl<I: Drop> Queue<I> {
         Ok(self.insert_reserved(p, i))
     }
 
-    /// The item of the least priority, and of these the one of the least serial. None exactly where there are no items.
+    /// The item of the least priority, and of these the one of the least serial. None exactly where
+    /// there are no items.
     #[inline]
     pub fn find_min(&self) -> Option<Item>
-        ensures { MatchOption result (self.now.live ≡ map.empty) (λ it. IsLeastItem self.now it.serial) }
+        ensures { MatchOption result (self.now.live ≡ map.empty) (λ it.
+            IsLeastItem self.now it.serial) }
     {
         if self.heap.len == 0 {
             return None;
@@ -133,9 +137,11 @@ impl<I: Drop> Queue<I> {
     ///
     /// # Errors
     ///
-    /// `Dead` where the serial is from 1 to the number made and has no item, and `Unknown` where it is 0 or above.
+    /// `Dead` where the serial is from 1 to the number made and has no item, and `Unknown` where it
+    /// is 0 or above.
     pub fn prio(&self, it: Item) -> Result<i64, Gone>
-        ensures { MatchResult result (λ p. HoldsPriority self.now it.serial p) (λ why. Lacks self.now it.serial why) }
+        ensures { MatchResult result (λ p. HoldsPriority self.now it.serial p)
+            (λ why. Lacks self.now it.serial why) }
     {
         match self.pool.get(it) {
             Ok(entry) => Ok(entry.priority),
@@ -149,7 +155,8 @@ impl<I: Drop> Queue<I> {
     ///
     /// As those of `prio`.
     pub fn inf(&self, it: Item) -> Result<&I, Gone>
-        ensures { MatchResult result (λ x. HoldsInformation self.now it.serial x.now) (λ why. Lacks self.now it.serial why) }
+        ensures { MatchResult result (λ x. HoldsInformation self.now it.serial x.now)
+            (λ why. Lacks self.now it.serial why) }
     {
         match self.pool.get(it) {
             Ok(entry) => Ok(&entry.inf),
@@ -163,20 +170,23 @@ impl<I: Drop> Queue<I> {
     ///
     /// As those of `prio`. The queue is then as it was, and `i` is dropped.
     pub fn change_inf(&mut self, it: Item, i: I) -> Result<I, Gone>
-        ensures { MatchResult result (λ old. ChangesInformation self.old self.new it.serial old i) (λ why. Lacks self.old it.serial why × (self.new ≡ self.old)) }
+        ensures { MatchResult result (λ old. ChangesInformation self.old self.new it.serial old i)
+            (λ why. Lacks self.old it.serial why × (self.new ≡ self.old)) }
     {
         let entry = self.pool.get_mut(it)?;
         Ok(mem::replace(&mut entry.inf, i))
     }
 
-    /// Gives an item a priority that is at most its own. The work is logarithmic in the number of items.
+    /// Gives an item a priority that is at most its own. The work is logarithmic in the number of
+    /// items.
     ///
     /// # Errors
     ///
-    /// `Gone` as the errors of `prio`, and `Larger` with the present priority exactly where `p` is above it. The queue is
-    /// then as it was.
+    /// `Gone` as the errors of `prio`, and `Larger` with the present priority exactly where `p` is
+    /// above it. The queue is then as it was.
     pub fn decrease_p(&mut self, it: Item, p: i64) -> Result<(), DecreaseRefusal>
-        ensures { MatchResult result (λ _. Decreases self.old self.new it.serial p) (λ why. RefusesDecrease self.old it.serial p why × (self.new ≡ self.old)) }
+        ensures { MatchResult result (λ _. Decreases self.old self.new it.serial p)
+            (λ why. RefusesDecrease self.old it.serial p why × (self.new ≡ self.old)) }
     {
         let (handle, priority) = match self.pool.get(it) {
             Ok(entry) => (entry.handle, entry.priority),
@@ -191,10 +201,11 @@ impl<I: Drop> Queue<I> {
         Ok(())
     }
 
-    /// Takes the item out that `find_min` gives, and answers its priority and its information. The work is logarithmic in
-    /// the number of items. None exactly where there are no items.
+    /// Takes the item out that `find_min` gives, and answers its priority and its information. The
+    /// work is logarithmic in the number of items. None exactly where there are no items.
     pub fn del_min(&mut self) -> Option<(i64, I)>
-        ensures { MatchOption result ((self.old.live ≡ map.empty) × (self.new ≡ self.old)) (λ r. RemovesLeast self.old self.new r.0 r.1) }
+        ensures { MatchOption result ((self.old.live ≡ map.empty) × (self.new ≡ self.old)) (λ r.
+            RemovesLeast self.old self.new r.0 r.1) }
     {
         if self.heap.len == 0 {
             return None;
@@ -212,13 +223,15 @@ impl<I: Drop> Queue<I> {
         }
     }
 
-    /// Takes an item out, and answers its information. The work is logarithmic in the number of items.
+    /// Takes an item out, and answers its information. The work is logarithmic in the number of
+    /// items.
     ///
     /// # Errors
     ///
     /// As those of `prio`. The queue is then as it was.
     pub fn del_item(&mut self, it: Item) -> Result<I, Gone>
-        ensures { MatchResult result (λ x. RemovesItem self.old self.new it.serial x) (λ why. Lacks self.old it.serial why × (self.new ≡ self.old)) }
+        ensures { MatchResult result (λ x. RemovesItem self.old self.new it.serial x)
+            (λ why. Lacks self.old it.serial why × (self.new ≡ self.old)) }
     {
         let Entry {
             handle,
@@ -255,7 +268,7 @@ impl<I: Drop> Queue<I> {
     #[inline]
     pub fn made(&self) -> u32
         ensures made { result ≡ self.now.made }
-        ensures most { result ≤ 16777215 }
+        ensures most { result ≤ MOST_SERIALS }
     {
         self.pool.made()
     }

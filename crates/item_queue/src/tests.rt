@@ -1,5 +1,5 @@
-//! What no clause says: each call's answer where there is memory, that a long run of calls goes as on a plain list, and
-//! that each value is dropped once.
+//! What no clause says: each call's answer where there is memory, that a long run of calls goes as
+//! on a plain list, and that each value is dropped once.
 use crate::{DecreaseRefusal, Gone, InsertRefusal, Item, Queue};
 use item_pool::MOST_SERIALS;
 use std::alloc::Global;
@@ -101,8 +101,8 @@ fn lists(queue: &Queue<u32>, list: &[Listed], alloc: Global) -> Result<bool, Fai
     Ok(same && row.as_slice().len() == list.len() && queue.len() as usize == list.len())
 }
 
-/// Whether one call at random goes as on the list. There are few priorities, so that many are equal, and the serial is
-/// one of the last hundred or of the next two.
+/// Whether one call at random goes as on the list. There are few priorities, so that many are
+/// equal, and the serial is one of the last hundred or of the next two.
 fn goes_at_random(queue: &mut Queue<u32>, list: &mut Vec<Listed>, random: u32) -> bool {
     let p = (random / 16 % 40) as i64;
     let it = Item {

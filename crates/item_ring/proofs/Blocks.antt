@@ -63,8 +63,8 @@ module _ (E : El) {M : Type 1} {𝓤 : Ura M} (𝓛 : Logic 𝓤) (b : ℕ) wher
   abbrev s : ℕ
   s = size E
 
-  abbrev Row : ℕ → List (Place E) → Fml
-  Row = places (R E) b
+  abbrev NodeBlock : ℕ → List (Place E) → Fml
+  NodeBlock = places (R E) b
 
   pub value_out : (x : el_x E) (o : ℕ) → ent 𝓤 (sem 𝓛 (part_at (R E) full_share x b o)) (ex 𝓤 (λ (v : Val). guard 𝓤 (Good (elτ E) v) (sep 𝓤 (H.at full_share (elτ E) b o v) (sem 𝓛 (E.row.own_val x (v ∷ []))))))
   value_out x o = qed 𝓛 (‵ (part_at (R E) full_share x b o) ∷ []) ∵
@@ -93,38 +93,38 @@ module _ (E : El) {M : Type 1} {𝓤 : Ura M} (𝓛 : Logic 𝓤) (b : ℕ) wher
   -- the places but for the i-th
   abbrev pub Others : ℕ → List (Place E) → ℕ → Fml
   Others o [] i = ftrue
-  Others o (c ∷ cs) zero = Row (o + s) cs
+  Others o (c ∷ cs) zero = NodeBlock (o + s) cs
   Others o (c ∷ cs) (suc i) = fsep (place (R E) b o c) (Others (o + s) cs i)
 
   abbrev At : List (Place E) → ℕ → ℕ → Fml
   At cs i k = place (R E) b k (get_or cs i None)
 
-  pub place_out : (o : ℕ) (cs : List (Place E)) (i : ℕ) → i < length cs → ent 𝓤 (sem 𝓛 (Row o cs)) (sep 𝓤 (sem 𝓛 (At cs i (i * s + o))) (sem 𝓛 (Others o cs i)))
+  pub place_out : (o : ℕ) (cs : List (Place E)) (i : ℕ) → i < length cs → ent 𝓤 (sem 𝓛 (NodeBlock o cs)) (sep 𝓤 (sem 𝓛 (At cs i (i * s + o))) (sem 𝓛 (Others o cs i)))
   place_out o [] i lt = absurd (omega arith)
-  place_out o (c ∷ cs) zero lt = qed 𝓛 (‵ (Row o (c ∷ cs)) ∷ []) ∵ fsplit ! $ rewrite ! 0 (λ (k : ℕ). ‵ (place (R E) b k c)) (at_first o) refl $ done !
+  place_out o (c ∷ cs) zero lt = qed 𝓛 (‵ (NodeBlock o (c ∷ cs)) ∷ []) ∵ fsplit ! $ rewrite ! 0 (λ (k : ℕ). ‵ (place (R E) b k c)) (at_first o) refl $ done !
   place_out o (c ∷ cs) (suc i) lt =
-      qed 𝓛 (‵ (Row o (c ∷ cs)) ∷ []) ∵ fsplit ! $ move ! (1 ∷ []) $
+      qed 𝓛 (‵ (NodeBlock o (c ∷ cs)) ∷ []) ∵ fsplit ! $ move ! (1 ∷ []) $
       use1 𝓛 (‵ (At cs i (i * s + (o + s))) ⊛ ‵ (Others (o + s) cs i)) (place_out (o + s) cs i (omega arith)) $ split ! $
       rewrite ! 0 (λ (k : ℕ). ‵ (At cs i k)) (further i o) refl $ frame ! $ move ! (1 ∷ 0 ∷ []) $ fjoin ! $ done !
 
-  pub place_in : (o : ℕ) (cs : List (Place E)) (i : ℕ) → i < length cs → (x : Place E) → ent 𝓤 (sep 𝓤 (sem 𝓛 (place (R E) b (i * s + o) x)) (sem 𝓛 (Others o cs i))) (sem 𝓛 (Row o (set cs i x)))
+  pub place_in : (o : ℕ) (cs : List (Place E)) (i : ℕ) → i < length cs → (x : Place E) → ent 𝓤 (sep 𝓤 (sem 𝓛 (place (R E) b (i * s + o) x)) (sem 𝓛 (Others o cs i))) (sem 𝓛 (NodeBlock o (set cs i x)))
   place_in o [] i lt x = absurd (omega arith)
   place_in o (c ∷ cs) zero lt x =
-      qed 𝓛 (‵ (place (R E) b (zero * s + o) x) ∷ ‵ (Row (o + s) cs) ∷ []) ∵ rewrite ! 0 (λ (k : ℕ). ‵ (place (R E) b k x)) (sym (at_first o)) refl $ fjoin ! $ done !
+      qed 𝓛 (‵ (place (R E) b (zero * s + o) x) ∷ ‵ (NodeBlock (o + s) cs) ∷ []) ∵ rewrite ! 0 (λ (k : ℕ). ‵ (place (R E) b k x)) (sym (at_first o)) refl $ fjoin ! $ done !
   place_in o (c ∷ cs) (suc i) lt x =
       qed 𝓛 (‵ (place (R E) b (suc i * s + o) x) ∷ ‵ (Others o (c ∷ cs) (suc i)) ∷ []) ∵
       rewrite ! 0 (λ (k : ℕ). ‵ (place (R E) b k x)) (sym (further i o)) refl $ move ! (1 ∷ []) $ fsplit ! $ move ! (2 ∷ 1 ∷ []) $
-      use2 𝓛 (‵ (Row (o + s) (set cs i x))) (place_in (o + s) cs i (omega arith) x) $ move ! (1 ∷ []) $ fjoin ! $ done !
+      use2 𝓛 (‵ (NodeBlock (o + s) (set cs i x))) (place_in (o + s) cs i (omega arith) x) $ move ! (1 ∷ []) $ fjoin ! $ done !
 
-  pub of_room : (n o : ℕ) → ent 𝓤 (H.room (ty_array (elτ E) n) b o) (sem 𝓛 (Row o (replicate n None)))
+  pub of_room : (n o : ℕ) → ent 𝓤 (H.room (ty_array (elτ E) n) b o) (sem 𝓛 (NodeBlock o (replicate n None)))
   of_room zero o = qed 𝓛 (‵ (froom (ty_array (elτ E) 0) b o) ∷ []) ∵ keep ! [] $ done !
   of_room (suc n) o = qed 𝓛 (‵ (froom (ty_array (elτ E) (suc n)) b o) ∷ []) ∵
       use1 𝓛 (‵ (froom (elτ E) b o) ⊛ ‵ (froom (ty_array (elτ E) n) b (o + s))) (𝓛.laws.room_uncons (elτ E) n b o) $ split ! $
       use1 𝓛 (‵ (place (R E) b o None)) (𝓛.laws.room-raw (elτ E) b o) $ frame ! $ by ! (of_room n (o + s))
 
-  pub to_room : (cs : List (Place E)) (o : ℕ) → ent 𝓤 (sem 𝓛 (Row o cs)) (H.room (ty_array (elτ E) (length cs)) b o)
+  pub to_room : (cs : List (Place E)) (o : ℕ) → ent 𝓤 (sem 𝓛 (NodeBlock o cs)) (H.room (ty_array (elτ E) (length cs)) b o)
   to_room [] o = 𝓛.laws.room_nil (elτ E) b o
-  to_room (c ∷ cs) o = qed 𝓛 (‵ (place (R E) b o c) ∷ ‵ (Row (o + s) cs) ∷ []) ∵
+  to_room (c ∷ cs) o = qed 𝓛 (‵ (place (R E) b o c) ∷ ‵ (NodeBlock (o + s) cs) ∷ []) ∵
       use1 𝓛 (‵ (froom (elτ E) b o)) (blanked o c) $ move ! (1 ∷ []) $
       use1 𝓛 (‵ (froom (ty_array (elτ E) (length cs)) b (o + s))) (to_room cs (o + s)) $ move ! (1 ∷ []) $ by ! (𝓛.laws.room_cons (elτ E) (length cs) b o)
 

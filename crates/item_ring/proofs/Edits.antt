@@ -6,7 +6,7 @@ use Rattle.item_ring.specs.declared.block.Node.{Node}
 use Rattle.item_ring.specs.declared.block.State.TheVariants.{Loose, Linked}
 use Rattle.item_ring.specs.Nodes.{Slots, node_at, cell_of, cell_at, next_of, prev_of, Writes, Edits, Spliced, Unspliced}
 
-pub cell_is : (v : Slots) (s : ℕ) (n : Node) → node_at v.rows s ≡ Some n → cell_at v s ≡ n.cell
+pub cell_is : (v : Slots) (s : ℕ) (n : Node) → node_at v.blocks s ≡ Some n → cell_at v s ≡ n.cell
 unfolding cell_at
 cell_is v s n e = ap cell_of e
 
@@ -22,9 +22,9 @@ same_field f v w s c h e k = elim (cases_eq k s) [
 ]
 
 module _ (v v1 v2 w : Slots) (here m ring : ℕ) (before behind own n1 n2 n3 : Node) (apart : here ≡ m → ⊥) (ahead_apart : next_of v here ≡ m → ⊥)
-    (read1 : node_at v.rows here ≡ Some before) (w1 : Writes v v1 here n1) (is1 : n1.cell ≡ record before.cell { next = m })
-    (read2 : node_at v1.rows before.cell.next ≡ Some behind) (w2 : Writes v1 v2 before.cell.next n2) (is2 : n2.cell ≡ record behind.cell { prev = m })
-    (read3 : node_at v2.rows m ≡ Some own) (w3 : Writes v2 w m n3)
+    (read1 : node_at v.blocks here ≡ Some before) (w1 : Writes v v1 here n1) (is1 : n1.cell ≡ record before.cell { next = m })
+    (read2 : node_at v1.blocks before.cell.next ≡ Some behind) (w2 : Writes v1 v2 before.cell.next n2) (is2 : n2.cell ≡ record behind.cell { prev = m })
+    (read3 : node_at v2.blocks m ≡ Some own) (w3 : Writes v2 w m n3)
     (is3 : n3.cell ≡ record { next = before.cell.next; prev = here; ring = ring; value = own.cell.value; state = Linked }) where
   abbrev ahead : ℕ
   ahead = before.cell.next
@@ -81,10 +81,10 @@ module _ (v v1 v2 w : Slots) (here m ring : ℕ) (before behind own n1 n2 n3 : N
   }
 
 module _ (v v1 v2 w : Slots) (m : ℕ) (node before behind own n1 n2 n3 : Node)
-    (read0 : node_at v.rows m ≡ Some node)
-    (read1 : node_at v.rows node.cell.prev ≡ Some before) (w1 : Writes v v1 node.cell.prev n1) (is1 : n1.cell ≡ record before.cell { next = node.cell.next })
-    (read2 : node_at v1.rows node.cell.next ≡ Some behind) (w2 : Writes v1 v2 node.cell.next n2) (is2 : n2.cell ≡ record behind.cell { prev = node.cell.prev })
-    (read3 : node_at v2.rows m ≡ Some own) (w3 : Writes v2 w m n3) (is3 : n3.cell ≡ record own.cell { state = Loose }) where
+    (read0 : node_at v.blocks m ≡ Some node)
+    (read1 : node_at v.blocks node.cell.prev ≡ Some before) (w1 : Writes v v1 node.cell.prev n1) (is1 : n1.cell ≡ record before.cell { next = node.cell.next })
+    (read2 : node_at v1.blocks node.cell.next ≡ Some behind) (w2 : Writes v1 v2 node.cell.next n2) (is2 : n2.cell ≡ record behind.cell { prev = node.cell.prev })
+    (read3 : node_at v2.blocks m ≡ Some own) (w3 : Writes v2 w m n3) (is3 : n3.cell ≡ record own.cell { state = Loose }) where
   abbrev p : ℕ
   p = node.cell.prev
 

@@ -6,6 +6,7 @@ use Rattle.std.specs.FinMap as map
 use Rattle.std.specs.FinMap.{FinMap, len-insert, len-remove, empty_of_len, get-empty}
 use Rattle.std.specs.Ordering.{nat_cmp}
 use Rattle.std.specs.Cmp.{nat_cmp_total}
+use Rattle.item_ring.specs.declared.rings.TheConstants.{MOST_NODES}
 use Rattle.item_ring.specs.declared.block.Cell.{Cell}
 use Rattle.item_ring.specs.declared.block.State.{State}
 use Rattle.item_ring.specs.declared.block.State.TheVariants.{Free, Loose, Linked, Head}
@@ -63,7 +64,7 @@ module _ (a : Inside) (inv : RingsHold a) (g : Slots) (gr : IsGrown a.nodes g) w
   pub grown_holds : RingsHold (record a { nodes = g })
   grown_holds = record { rings = are; free = fr; stock = st }
 
-  pub reserve_holds : (sh sm : ℕ) → map.len s.rings + sh ≤ 16777215 → map.len s.tags + sm ≤ 16777215 → (a.nodes.len - a.free) + sh + sm ≤ g.room → RingsHold (record a { nodes = g; spare_heads = sh; spare_members = sm })
+  pub reserve_holds : (sh sm : ℕ) → map.len s.rings + sh ≤ MOST_NODES → map.len s.tags + sm ≤ MOST_NODES → (a.nodes.len - a.free) + sh + sm ≤ g.room → RingsHold (record a { nodes = g; spare_heads = sh; spare_members = sm })
   reserve_holds sh sm few_heads few_members fits = record {
     rings = are;
     free = fr;
@@ -100,7 +101,7 @@ module _ (a : Inside) (inv : RingsHold a) (g : Slots) (gr : IsGrown a.nodes g) w
     no_tag = are.tags slot ∙ ap (λ t. cond (is_member t) (Some (value_of g slot)) None) free_before
 
   module _ (w : Slots) (next after slot left : ℕ) (cl : Claimed g w next a.free after s.free slot 0 Head) (seen : Seen View) (turned : seen.view ≡ headed s slot)
-      (fits : left + a.spare_members + g.len + 1 ≤ a.free + g.room) (few : map.len s.rings + 1 + left ≤ 16777215) where
+      (fits : left + a.spare_members + g.len + 1 ≤ a.free + g.room) (few : map.len s.rings + 1 + left ≤ MOST_NODES) where
     abbrev c : Cell
     c = record { next = slot; prev = slot; ring = slot; value = 0; state = Head }
 
@@ -151,7 +152,7 @@ module _ (a : Inside) (inv : RingsHold a) (g : Slots) (gr : IsGrown a.nodes g) w
         }
 
   module _ (w : Slots) (next after slot left tag : ℕ) (cl : Claimed g w next a.free after s.free slot tag Loose) (seen : Seen View) (turned : seen.view ≡ membered s slot tag)
-      (fits : a.spare_heads + left + g.len + 1 ≤ a.free + g.room) (few : map.len s.tags + 1 + left ≤ 16777215) where
+      (fits : a.spare_heads + left + g.len + 1 ≤ a.free + g.room) (few : map.len s.tags + 1 + left ≤ MOST_NODES) where
     abbrev d : Cell
     d = record { next = slot; prev = slot; ring = slot; value = tag; state = Loose }
 
@@ -332,7 +333,7 @@ fits_other left spare other n used used' free room room' l grown is same low res
   | inr some ↦ omega (arith, l, some, is, same, low, reserved, more)
 ]
 
-pub few_more : (count spare left : ℕ) → left ≡ spare - 1 → count < 16777215 → count + spare ≤ 16777215 → count + 1 + left ≤ 16777215
+pub few_more : (count spare left : ℕ) → left ≡ spare - 1 → count < MOST_NODES → count + spare ≤ MOST_NODES → count + 1 + left ≤ MOST_NODES
 few_more count spare left l low few = omega (arith, l, low, few)
 
 pub free_low : (heads members free used : ℕ) → heads + members + free ≡ used → free ≤ used

@@ -7,7 +7,7 @@ use Rattle.std.specs.Ordering.{nat_cmp}
 use Rattle.item_ring.specs.declared.block.Cell.{Cell}
 use Rattle.item_ring.specs.declared.block.State.{State}
 use Rattle.item_ring.specs.declared.block.State.TheVariants.{Free, Loose, Linked, Head}
-use Rattle.item_ring.specs.Row.{Row}
+use Rattle.item_ring.specs.NodeBlock.{NodeBlock}
 use Rattle.item_ring.specs.Nodes.{Slots, node_at, cell_of, cell_at, next_of, prev_of, ring_of, value_of, state_of, blank, Edits}
 use Rattle.item_ring.specs.RingLists.{IsIn, list_in}
 use Rattle.item_ring.specs.AreRings.{is_head, is_member, IsRing, AreRings, IsChain, IsFree, IsStocked, Claimed}
@@ -177,10 +177,10 @@ module _ (v w : Slots) (s s' : View) (first before free slot value : ℕ) (state
     ]
   ]
 
-pub holds_nothing : (v : Slots) (s : View) → v.rows ≡ [] → v.len ≡ 0 → v.room ≡ 0 → s ≡ nothing_seen → AreRings v s × IsFree v 0 0 s.free × IsStocked v s 0 0 0
+pub holds_nothing : (v : Slots) (s : View) → v.blocks ≡ [] → v.len ≡ 0 → v.room ≡ 0 → s ≡ nothing_seen → AreRings v s × IsFree v 0 0 s.free × IsStocked v s 0 0 0
 unfolding cell_at node_at
-holds_nothing v s rows len room is =
-    let blank_at : (k : ℕ) → cell_at v k ≡ blank = λ k. ap (λ (r : List Row). cell_of (node_at r k)) rows in
+holds_nothing v s blocks len room is =
+    let blank_at : (k : ℕ) → cell_at v k ≡ blank = λ k. ap (λ (r : List NodeBlock). cell_of (node_at r k)) blocks in
     let free_at : (k : ℕ) → state_of v k ≡ Free = λ k. ap (λ (c : Cell). c.state) (blank_at k) in
     let all : AreRings v nothing_seen = record {
       heads = λ h. ap is_some (get-empty nat_cmp h) ∙ sym (ap is_head (free_at h));

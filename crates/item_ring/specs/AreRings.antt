@@ -1,6 +1,7 @@
--- How nodes that are tied to each other stand for rings.
+-- Private: how nodes that are tied to each other stand for rings.
 use Rattle.std.specs.Prelude.{◌≡◌, ℕ, ◌+◌, ◌^◌, ◌<◌, ◌≤◌, Bool, true, false, cond, ◌⊎◌, List, [], ◌∷◌, ◌++◌, length, Some, None}
 use Rattle.std.specs.FinMap as map
+use Rattle.item_ring.specs.declared.rings.TheConstants.{MOST_NODES}
 use Rattle.item_ring.specs.declared.block.State.{State}
 use Rattle.item_ring.specs.declared.block.State.TheVariants.{Free, Loose, Linked, Head}
 use Rattle.item_ring.specs.Nodes.{Slots, Edits, next_of, prev_of, ring_of, value_of, state_of}
@@ -64,8 +65,8 @@ pub record IsStocked (v : Slots) (s : View) (count spare_heads spare_members : �
   pub reserved : spare_heads + spare_members + v.len ≤ count + v.room
   pub within : v.len ≤ v.room
   pub small : v.room ≤ 2 ^ 26
-  pub few_heads : map.len s.rings + spare_heads ≤ 16777215
-  pub few_members : map.len s.tags + spare_members ≤ 16777215
+  pub few_heads : map.len s.rings + spare_heads ≤ MOST_NODES
+  pub few_members : map.len s.tags + spare_members ≤ MOST_NODES
 
 abbrev pub tail : List ℕ → List ℕ
 tail [] = []

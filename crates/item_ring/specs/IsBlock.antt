@@ -1,10 +1,10 @@
--- How a block stores its row.
+-- Private: how a block stores its row.
 use Rattle.std.specs.Prelude.{◌≡◌, length}
 use Rattle.item_ring.specs.declared.block.Block.TheInside.{Inside}
-use Rattle.item_ring.specs.Row.{Row}
+use Rattle.item_ring.specs.NodeBlock.{NodeBlock}
 
-abbrev pub row_of : Inside → Row
-row_of a = record { at = a.cells.at; slots = a.cells.slots }
+abbrev pub block_of : Inside → NodeBlock
+block_of a = record { at = a.cells.at; slots = a.cells.slots }
 
 pub record IsBlock (a : Inside) : Type 0 where
   pub owned : a.cells.at ≡ a.start.at

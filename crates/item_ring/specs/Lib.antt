@@ -2,9 +2,9 @@ pub mod AreNodes
 pub mod AreRings
 pub mod IsBlock
 pub mod Memory
+pub mod NodeBlock
 pub mod Nodes
 pub mod RingLists
 pub mod RingsHold
-pub mod Row
 pub mod Turns
 pub mod View

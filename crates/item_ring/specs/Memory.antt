@@ -1,4 +1,4 @@
--- What a block of places for values of the row R owns and lends.
+-- Private: what a block of places for values of the row R owns and lends.
 use Rattle.std.specs.Prelude.{◌≡◌, ℕ, ◌+◌, ◌*◌, ◌^◌, get_or, List, [], ◌∷◌, length, Option, Some, None}
 use Rattle.std.specs.Mem.{type_size}
 use base.Fraction.{full_share}

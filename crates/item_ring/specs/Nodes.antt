@@ -1,4 +1,4 @@
--- Nodes by their slots, and how the raw links between them lie.
+-- Private: nodes by their slots, and how the raw links between them lie.
 use Rattle.std.specs.Prelude.{◌≡◌, ◌≢◌, ℕ, ◌*◌, ◌/◌, ◌%◌, ◌<◌, ◌≤◌, get_or, length, List, [], Option, Some, None}
 use denote.RawPtr.{Ptr, null_ptr}
 use Rattle.item_ring.specs.declared.block.Cell.{Cell}
@@ -6,23 +6,23 @@ use Rattle.item_ring.specs.declared.block.Node.{Node}
 use Rattle.item_ring.specs.declared.block.State.{State}
 use Rattle.item_ring.specs.declared.block.State.TheVariants.{Free, Loose, Linked}
 use Rattle.item_ring.specs.declared.cells.Link.{Link}
-use Rattle.item_ring.specs.Row.{Row, place_of}
+use Rattle.item_ring.specs.NodeBlock.{NodeBlock, place_of}
 
 -- the blocks, how many slots are in use, and how many there are
 pub record Slots : Type 0 where
-  pub rows : List Row
+  pub blocks : List NodeBlock
   pub len : ℕ
   pub room : ℕ
 
-abbrev pub no_row : Row
-no_row = record { at = null_ptr; slots = [] }
+abbrev pub no_block : NodeBlock
+no_block = record { at = null_ptr; slots = [] }
 
 -- the node in the slot, and where the slot lies
-unfoldable pub node_at : List Row → ℕ → Option Node
-node_at rows s = get_or (get_or rows (s / 256) no_row).slots (s % 256) None
+unfoldable pub node_at : List NodeBlock → ℕ → Option Node
+node_at blocks s = get_or (get_or blocks (s / 256) no_block).slots (s % 256) None
 
-unfoldable pub address : List Row → ℕ → Ptr
-address rows s = place_of (get_or rows (s / 256) no_row) (s % 256)
+unfoldable pub address : List NodeBlock → ℕ → Ptr
+address blocks s = place_of (get_or blocks (s / 256) no_block) (s % 256)
 
 abbrev pub blank : Cell
 blank = record { next = 0; prev = 0; ring = 0; value = 0; state = Free }
@@ -32,7 +32,7 @@ cell_of None = blank
 cell_of (Some n) = n.cell
 
 unfoldable pub cell_at : Slots → ℕ → Cell
-cell_at v s = cell_of (node_at v.rows s)
+cell_at v s = cell_of (node_at v.blocks s)
 
 abbrev pub next_of : Slots → ℕ → ℕ
 next_of v s = (cell_at v s).next
@@ -51,7 +51,7 @@ state_of v s = (cell_at v s).state
 
 -- the raw link is the address of the slot, which is in use
 pub record LeadsTo (v : Slots) (link : Link) (s : ℕ) : Type 0 where
-  pub there : link.at ≡ address v.rows s
+  pub there : link.at ≡ address v.blocks s
   pub within : s < v.len
 
 -- both links of the node lead to the slots that its cell names
@@ -62,16 +62,16 @@ pub record IsTied (v : Slots) (n : Node) : Type 0 where
 -- the slot holds a node that is tied
 pub record HasNode (v : Slots) (s : ℕ) : Type 0 where
   pub node : Node
-  pub is : node_at v.rows s ≡ Some node
+  pub is : node_at v.blocks s ≡ Some node
   pub tied : IsTied v node
 
 -- the node is written to the slot, and nothing else changes
 pub record Writes (v w : Slots) (s : ℕ) (n : Node) : Type 0 where
   pub len : w.len ≡ v.len
   pub room : w.room ≡ v.room
-  pub here : node_at w.rows s ≡ Some n
-  pub elsewhere : (k : ℕ) → k ≢ s → node_at w.rows k ≡ node_at v.rows k
-  pub stays : (k : ℕ) → address w.rows k ≡ address v.rows k
+  pub here : node_at w.blocks s ≡ Some n
+  pub elsewhere : (k : ℕ) → k ≢ s → node_at w.blocks k ≡ node_at v.blocks k
+  pub stays : (k : ℕ) → address w.blocks k ≡ address v.blocks k
 
 -- the cell is written to the slot, and no other cell changes
 pub record Edits (v w : Slots) (s : ℕ) (c : Cell) : Type 0 where
@@ -109,8 +109,8 @@ pub record Unspliced (v w : Slots) (m : ℕ) : Type 0 where
   pub value_same : (k : ℕ) → value_of w k ≡ value_of v k
 
 pub record AreNodes (v : Slots) : Type 0 where
-  pub long : (i : ℕ) → i < length v.rows → length (get_or v.rows i no_row).slots ≡ 256
-  pub sized : v.room ≡ 256 * length v.rows
+  pub long : (i : ℕ) → i < length v.blocks → length (get_or v.blocks i no_block).slots ≡ 256
+  pub sized : v.room ≡ 256 * length v.blocks
   pub within : v.len ≤ v.room
   pub filled : (s : ℕ) → s < v.len → HasNode v s
-  pub beyond : (s : ℕ) → v.len ≤ s → node_at v.rows s ≡ None
+  pub beyond : (s : ℕ) → v.len ≤ s → node_at v.blocks s ≡ None

@@ -1,4 +1,4 @@
--- How `Rings` stores its lists.
+-- Private: how `Rings` stores its lists.
 use Rattle.item_ring.specs.declared.rings.Rings.TheInside.{Inside}
 use Rattle.item_ring.specs.RingLists.{RingLists}
 use Rattle.item_ring.specs.AreRings.{AreRings, IsFree, IsStocked}

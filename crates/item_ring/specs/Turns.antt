@@ -1,4 +1,4 @@
--- What is seen after a call.
+-- Private: what is seen after a call.
 use Rattle.std.specs.Prelude.{ℕ, cond, ◌==◌, List, [], ◌∷◌, Option, Some, None}
 use Rattle.std.specs.FinMap as map
 use Rattle.item_ring.specs.RingLists.{list_in, without, with_after}

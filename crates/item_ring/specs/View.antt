@@ -1,4 +1,4 @@
--- What contracts see of the rings, and what the proofs see beside.
+-- Private: what contracts see of the rings, and what the proofs see beside.
 use Rattle.std.specs.Prelude.{ℕ, List, [], refl}
 use Rattle.std.specs.Coded.{Coded, code_by, coded×, coded_ℕ, coded_list}
 use Rattle.std.specs.Ordering.{nat_cmp}

@@ -2,7 +2,7 @@
 ghost use Rattle.std.specs.Prelude.{◌≡◌, ℕ, ◌<◌, ◌*◌, Option, Some, None, length, get_or, slice_set, IfOk, replicate};
 ghost use Rattle.std.specs.Vec.Ownership.{FitsInBlock};
 ghost use Rattle.item_ring.specs.Memory.{IsFilled};
-ghost use Rattle.item_ring.specs.Row.{place_of};
+ghost use Rattle.item_ring.specs.NodeBlock.{place_of};
 
 use crate::cells::{Cells, Deed, Link, allocate, deallocate};
 use std::alloc::{AllocError, Global};
@@ -48,13 +48,13 @@ pub(crate) struct Block {
 }
 
 impl Model for Block {
-    ghost use Rattle.item_ring.specs.Row.{Row};
+    ghost use Rattle.item_ring.specs.NodeBlock.{NodeBlock};
 
-    ghost Value = { Row };
+    ghost Value = { NodeBlock };
 
-    ghost use Rattle.item_ring.specs.IsBlock.{row_of, IsBlock};
+    ghost use Rattle.item_ring.specs.IsBlock.{block_of, IsBlock};
 
-    ghost view = { row_of };
+    ghost view = { block_of };
 
     ghost invariant = { IsBlock };
 }
@@ -73,7 +73,7 @@ impl Block {
         })
     }
 
-    #[tactic(auto, unfolding(crate::specs::Row::place_of))]
+    #[tactic(auto, unfolding(crate::specs::NodeBlock::place_of))]
     /// The link to the place at the index.
     pub(crate) fn link(&self, index: usize) -> Link
         requires { index < length self.now.slots }
@@ -82,7 +82,7 @@ impl Block {
         self.cells.link(self.start, index)
     }
 
-    #[tactic(auto, unfolding(crate::specs::Row::place_of))]
+    #[tactic(auto, unfolding(crate::specs::NodeBlock::place_of))]
     /// Follows a link to a node.
     pub(crate) fn get(&self, link: Link, index: usize) -> Node
         requires leads { link.at ≡ place_of self.now index }
@@ -92,7 +92,7 @@ impl Block {
         *self.cells.get(link, index)
     }
 
-    #[tactic(auto, unfolding(crate::specs::Row::place_of))]
+    #[tactic(auto, unfolding(crate::specs::NodeBlock::place_of))]
     /// Puts a node where the link leads.
     pub(crate) fn set(&mut self, link: Link, index: usize, node: Node)
         requires leads { link.at ≡ place_of self.old index }

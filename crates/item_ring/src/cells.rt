@@ -50,7 +50,12 @@ pub(crate) fn allocate<T, A: Allocator>(
     len: usize,
 ) -> Result<(Link, Cells<T>, Deed<T, A>), AllocError>
     requires { FitsInBlock T.row len }
-    ensures { IfOk result (λ r. (r.1.at ≡ r.0.at) × (r.1.slots ≡ replicate len None) × (r.2.at ≡ r.0.at) × (r.2.len ≡ len) × (r.2.alloc ≡ alloc.now)) }
+    ensures { IfOk result (λ r.
+        (r.1.at ≡ r.0.at)
+        × (r.1.slots ≡ replicate len None)
+        × (r.2.at ≡ r.0.at)
+        × (r.2.len ≡ len)
+        × (r.2.alloc ≡ alloc.now)) }
 {
     let Ok(block) = alloc.allocate(len * size_of::<T>(), align_of::<T>()) else {
         return Err(AllocError);
@@ -73,7 +78,11 @@ pub(crate) fn deallocate<T, A: Allocator>(
     cells: Cells<T>,
     deed: Deed<T, A>,
 )
-    requires { (cells.at ≡ start.at) × (length cells.slots ≡ len) × (deed.at ≡ start.at) × (deed.len ≡ len) × (deed.alloc ≡ alloc.now) }
+    requires { (cells.at ≡ start.at)
+        × (length cells.slots ≡ len)
+        × (deed.at ≡ start.at)
+        × (deed.len ≡ len)
+        × (deed.alloc ≡ alloc.now) }
 {
     let Cells { mark: _ } = cells;
     let Deed { mark: _ } = deed;
@@ -98,7 +107,8 @@ impl<T> Cells<T> {
     /// Follows the link to a value. The index, the place that the link leads to, serves the proof
     /// alone.
     pub(crate) fn get(&self, link: Link, index: usize) -> &T
-        requires { (link.at ≡ self.now.at +ₚ (index * type_size T.row)) × IsFilled self.now.slots index }
+        requires { (link.at ≡ self.now.at +ₚ (index * type_size T.row))
+            × IsFilled self.now.slots index }
         ensures { get_or self.now.slots index None ≡ Some result.now }
     {
         unsafe { &*(link.at as *const T) }
@@ -106,8 +116,10 @@ impl<T> Cells<T> {
 
     /// Puts the item where the link leads. What stood there is forgotten.
     pub(crate) fn write(&mut self, link: Link, index: usize, item: T)
-        requires { (link.at ≡ self.old.at +ₚ (index * type_size T.row)) × (index < length self.old.slots) }
-        ensures { (self.new.at ≡ self.old.at) × (self.new.slots ≡ slice_set self.old.slots index (Some item)) }
+        requires { (link.at ≡ self.old.at +ₚ (index * type_size T.row))
+            × (index < length self.old.slots) }
+        ensures { (self.new.at ≡ self.old.at)
+            × (self.new.slots ≡ slice_set self.old.slots index (Some item)) }
     {
         unsafe { (link.at as *mut T).write(item) }
     }

@@ -58,7 +58,7 @@ mod nodes;
 mod rings;
 mod seen;
 
-pub use rings::{Head, Member, RingRefusal, Rings};
+pub use rings::{Head, MOST_NODES, Member, RingRefusal, Rings};
 
 #[cfg(test)]
 mod tests;

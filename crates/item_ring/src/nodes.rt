@@ -29,7 +29,7 @@ impl Model for Nodes {
 
 impl Nodes {
     pub(crate) fn new(alloc: Global) -> Nodes
-        ensures { (result.rows ≡ []) × (result.len ≡ 0) × (result.room ≡ 0) }
+        ensures { (result.blocks ≡ []) × (result.len ≡ 0) × (result.room ≡ 0) }
     {
         Nodes {
             blocks: Vec::new(alloc),
@@ -77,7 +77,7 @@ impl Nodes {
     /// Follows a link.
     fn read(&self, link: Link, slot: u32) -> Node
         requires { LeadsTo self.now link slot }
-        ensures node { node_at self.now.rows slot ≡ Some result }
+        ensures node { node_at self.now.blocks slot ≡ Some result }
         ensures tied { IsTied self.now result }
     {
         self.blocks[slot as usize / BLOCK].get(link, slot as usize % BLOCK)
@@ -97,7 +97,9 @@ impl Nodes {
         requires room { self.old.len < self.old.room }
         requires few { self.old.len + 1 < 2 ^ 32 }
         ensures len { self.new.len ≡ self.old.len + 1 }
-        ensures cell { let n = self.old.len in Edits self.old self.new n (record { next = n; prev = n; ring = n; value = value; state = state }) }
+        ensures cell { let n = self.old.len in
+            Edits self.old self.new n
+            (record { next = n; prev = n; ring = n; value = value; state = state }) }
     {
         let slot = self.len;
         let link = self.blocks[slot as usize / BLOCK].link(slot as usize % BLOCK);
@@ -131,7 +133,8 @@ impl Nodes {
         requires slot { slot < self.old.len }
         requires next { next < self.old.len }
         ensures len { self.new.len ≡ self.old.len }
-        ensures cell { Edits self.old self.new slot (record { next = next; prev = slot; ring = slot; value = value; state = state }) }
+        ensures cell { Edits self.old self.new slot
+            (record { next = next; prev = slot; ring = slot; value = value; state = state }) }
     {
         let link = self.link(slot);
         let ahead = self.link(next);
@@ -154,7 +157,8 @@ impl Nodes {
     pub(crate) fn set_value(&mut self, slot: u32, value: u32)
         requires { slot < self.old.len }
         ensures len { self.new.len ≡ self.old.len }
-        ensures cell { Edits self.old self.new slot (record (cell_at self.old slot) { value = value }) }
+        ensures cell { Edits self.old self.new slot
+            (record (cell_at self.old slot) { value = value }) }
     {
         let link = self.link(slot);
         let node = self.read(link, slot);

@@ -14,6 +14,9 @@ use leda_base::Seen;
 use std::alloc::{AllocError, Global};
 use std::marker::Model;
 
+/// The most heads that there are at once, and the most members.
+pub const MOST_NODES: u32 = 16_777_215;
+
 /// A head of a ring. Two that one `Rings` gave and that weren't dropped are equal exactly where
 /// they are the same head.
 #[derive(Clone, Copy, PartialEq, Eq, Drop)]
@@ -124,7 +127,8 @@ impl Rings {
         ensures rings { self.new.rings ≡ map.insert self.old.rings h (ring self.old h ++ m ∷ []) }
         ensures loose { self.new.loose ≡ without m self.old.loose }
         ensures tags { self.new.tags ≡ self.old.tags }
-        ensures spare { (self.new.spare_heads ≡ self.old.spare_heads) × (self.new.spare_members ≡ self.old.spare_members) }
+        ensures spare { (self.new.spare_heads ≡ self.old.spare_heads)
+            × (self.new.spare_members ≡ self.old.spare_members) }
         ensures apart { AreApart self.new }
     {
         let last = self.last(h);
@@ -138,7 +142,8 @@ impl Rings {
         ensures rings { self.new.rings ≡ map.insert self.old.rings h (m ∷ ring self.old h) }
         ensures loose { self.new.loose ≡ without m self.old.loose }
         ensures tags { self.new.tags ≡ self.old.tags }
-        ensures spare { (self.new.spare_heads ≡ self.old.spare_heads) × (self.new.spare_members ≡ self.old.spare_members) }
+        ensures spare { (self.new.spare_heads ≡ self.old.spare_heads)
+            × (self.new.spare_members ≡ self.old.spare_members) }
         ensures apart { AreApart self.new }
     {
         self.tie(h, None, m);
@@ -148,10 +153,13 @@ impl Rings {
     pub fn insert_after(&mut self, at: Member, m: Member)
         requires at { IsLinked self.old at }
         requires member { IsLoose self.old m }
-        ensures rings { (h : ℕ) → IsLinkedIn self.old h at → self.new.rings ≡ map.insert self.old.rings h (with_after at m (ring self.old h)) }
+        ensures rings { (h : ℕ)
+            → IsLinkedIn self.old h at
+            → self.new.rings ≡ map.insert self.old.rings h (with_after at m (ring self.old h)) }
         ensures loose { self.new.loose ≡ without m self.old.loose }
         ensures tags { self.new.tags ≡ self.old.tags }
-        ensures spare { (self.new.spare_heads ≡ self.old.spare_heads) × (self.new.spare_members ≡ self.old.spare_members) }
+        ensures spare { (self.new.spare_heads ≡ self.old.spare_heads)
+            × (self.new.spare_members ≡ self.old.spare_members) }
         ensures apart { AreApart self.new }
     {
         let h = self.head_of(at);
@@ -162,10 +170,13 @@ impl Rings {
     pub fn insert_before(&mut self, at: Member, m: Member)
         requires at { IsLinked self.old at }
         requires member { IsLoose self.old m }
-        ensures rings { (h : ℕ) → IsLinkedIn self.old h at → self.new.rings ≡ map.insert self.old.rings h (with_before at m (ring self.old h)) }
+        ensures rings { (h : ℕ)
+            → IsLinkedIn self.old h at
+            → self.new.rings ≡ map.insert self.old.rings h (with_before at m (ring self.old h)) }
         ensures loose { self.new.loose ≡ without m self.old.loose }
         ensures tags { self.new.tags ≡ self.old.tags }
-        ensures spare { (self.new.spare_heads ≡ self.old.spare_heads) × (self.new.spare_members ≡ self.old.spare_members) }
+        ensures spare { (self.new.spare_heads ≡ self.old.spare_heads)
+            × (self.new.spare_members ≡ self.old.spare_members) }
         ensures apart { AreApart self.new }
     {
         let h = self.head_of(at);
@@ -178,7 +189,8 @@ impl Rings {
         requires head { IsHead self.old h }
         requires member { IsLoose self.old m }
         requires behind { ForSome behind (λ at. IsIn at (ring self.old h)) }
-        ensures rings { self.new.rings ≡ map.insert self.old.rings h (with_behind behind m (ring self.old h)) }
+        ensures rings { self.new.rings
+            ≡ map.insert self.old.rings h (with_behind behind m (ring self.old h)) }
         ensures loose { self.new.loose ≡ without m self.old.loose }
         ensures tags { self.new.tags ≡ self.old.tags }
         ensures spare { (self.new.spare_heads ≡ self.old.spare_heads)
@@ -195,10 +207,13 @@ impl Rings {
     /// Takes the member out of its ring. It is loose from here on.
     pub fn unlink(&mut self, m: Member)
         requires { IsLinked self.old m }
-        ensures rings { (h : ℕ) → IsLinkedIn self.old h m → self.new.rings ≡ map.insert self.old.rings h (without m (ring self.old h)) }
+        ensures rings { (h : ℕ)
+            → IsLinkedIn self.old h m
+            → self.new.rings ≡ map.insert self.old.rings h (without m (ring self.old h)) }
         ensures loose { self.new.loose ≡ m ∷ self.old.loose }
         ensures tags { self.new.tags ≡ self.old.tags }
-        ensures spare { (self.new.spare_heads ≡ self.old.spare_heads) × (self.new.spare_members ≡ self.old.spare_members) }
+        ensures spare { (self.new.spare_heads ≡ self.old.spare_heads)
+            × (self.new.spare_members ≡ self.old.spare_members) }
         ensures apart { AreApart self.new }
     {
         let head = self.nodes.get(m.slot).ring;
@@ -229,7 +244,9 @@ impl Rings {
     /// The member behind `m`, and none exactly where `m` is the last.
     pub fn next(&self, m: Member) -> Option<Member>
         requires { IsLinked self.now m }
-        ensures next { (h : ℕ) (before : List ℕ) (behind : List ℕ) → StandsBetween self.now h m before behind → result ≡ front behind }
+        ensures next { (h : ℕ) (before : List ℕ) (behind : List ℕ)
+            → StandsBetween self.now h m before behind
+            → result ≡ front behind }
         ensures apart { AreApart self.now }
     {
         let cell = self.nodes.get(m.slot);
@@ -239,7 +256,9 @@ impl Rings {
     /// The member before `m`, and none exactly where `m` is the first.
     pub fn prev(&self, m: Member) -> Option<Member>
         requires { IsLinked self.now m }
-        ensures prev { (h : ℕ) (before : List ℕ) (behind : List ℕ) → StandsBetween self.now h m before behind → result ≡ back before }
+        ensures prev { (h : ℕ) (before : List ℕ) (behind : List ℕ)
+            → StandsBetween self.now h m before behind
+            → result ≡ back before }
         ensures apart { AreApart self.now }
     {
         let cell = self.nodes.get(m.slot);
@@ -259,11 +278,15 @@ impl Rings {
 
     /// Makes room, so that so many heads and so many members more are made without refusal.
     pub fn reserve(&mut self, heads: u32, members: u32) -> Result<(), RingRefusal>
-        requires heads { map.len self.old.rings + heads ≤ 16777215 }
-        requires members { map.len self.old.tags + members ≤ 16777215 }
-        ensures enough { IfOk result (λ _. (heads ≤ self.new.spare_heads) × (members ≤ self.new.spare_members)) }
-        ensures kept { (self.old.spare_heads ≤ self.new.spare_heads) × (self.old.spare_members ≤ self.new.spare_members) }
-        ensures same { (self.new.rings ≡ self.old.rings) × (self.new.loose ≡ self.old.loose) × (self.new.tags ≡ self.old.tags) }
+        requires heads { map.len self.old.rings + heads ≤ MOST_NODES }
+        requires members { map.len self.old.tags + members ≤ MOST_NODES }
+        ensures enough { IfOk result (λ _.
+            (heads ≤ self.new.spare_heads) × (members ≤ self.new.spare_members)) }
+        ensures kept { (self.old.spare_heads ≤ self.new.spare_heads)
+            × (self.old.spare_members ≤ self.new.spare_members) }
+        ensures same { (self.new.rings ≡ self.old.rings)
+            × (self.new.loose ≡ self.old.loose)
+            × (self.new.tags ≡ self.old.tags) }
         ensures refused { IfErr result (λ _. self.new ≡ self.old) }
         ensures apart { AreApart self.new }
     {
@@ -282,11 +305,15 @@ impl Rings {
 
     /// A new head, whose ring is empty. None is refused while heads are spare.
     pub fn add_head(&mut self) -> Result<Head, RingRefusal>
-        requires { map.len self.old.rings < 16777215 }
-        ensures made { IfOk result (λ h. (map.contains_key self.old.rings h ≡ false) × (self.new.rings ≡ map.insert self.old.rings h [])) }
+        requires { map.len self.old.rings < MOST_NODES }
+        ensures made { IfOk result (λ h.
+            (map.contains_key self.old.rings h ≡ false)
+            × (self.new.rings ≡ map.insert self.old.rings h [])) }
         ensures sure { 0 < self.old.spare_heads → IsOk result }
         ensures spare { IfOk result (λ _. self.new.spare_heads ≡ self.old.spare_heads - 1) }
-        ensures same { (self.new.loose ≡ self.old.loose) × (self.new.tags ≡ self.old.tags) × (self.new.spare_members ≡ self.old.spare_members) }
+        ensures same { (self.new.loose ≡ self.old.loose)
+            × (self.new.tags ≡ self.old.tags)
+            × (self.new.spare_members ≡ self.old.spare_members) }
         ensures refused { IfErr result (λ _. self.new ≡ self.old) }
         ensures apart { AreApart self.new }
     {
@@ -308,11 +335,15 @@ impl Rings {
 
     /// A new member with the tag. It is loose. None is refused while members are spare.
     pub fn add_member(&mut self, tag: u32) -> Result<Member, RingRefusal>
-        requires { map.len self.old.tags < 16777215 }
-        ensures made { IfOk result (λ m. (map.contains_key self.old.tags m ≡ false) × (self.new.tags ≡ map.insert self.old.tags m tag) × (self.new.loose ≡ m ∷ self.old.loose)) }
+        requires { map.len self.old.tags < MOST_NODES }
+        ensures made { IfOk result (λ m.
+            (map.contains_key self.old.tags m ≡ false)
+            × (self.new.tags ≡ map.insert self.old.tags m tag)
+            × (self.new.loose ≡ m ∷ self.old.loose)) }
         ensures sure { 0 < self.old.spare_members → IsOk result }
         ensures spare { IfOk result (λ _. self.new.spare_members ≡ self.old.spare_members - 1) }
-        ensures same { (self.new.rings ≡ self.old.rings) × (self.new.spare_heads ≡ self.old.spare_heads) }
+        ensures same { (self.new.rings ≡ self.old.rings)
+            × (self.new.spare_heads ≡ self.old.spare_heads) }
         ensures refused { IfErr result (λ _. self.new ≡ self.old) }
         ensures apart { AreApart self.new }
     {
@@ -338,7 +369,8 @@ impl Rings {
         ensures tags { self.new.tags ≡ map.remove self.old.tags m }
         ensures loose { self.new.loose ≡ without m self.old.loose }
         ensures spare { self.new.spare_members ≡ self.old.spare_members + 1 }
-        ensures same { (self.new.rings ≡ self.old.rings) × (self.new.spare_heads ≡ self.old.spare_heads) }
+        ensures same { (self.new.rings ≡ self.old.rings)
+            × (self.new.spare_heads ≡ self.old.spare_heads) }
         ensures apart { AreApart self.new }
     {
         let next = next_free(self.free, self.first_free, m.slot);
@@ -355,7 +387,9 @@ impl Rings {
         requires empty { ring self.old h ≡ [] }
         ensures rings { self.new.rings ≡ map.remove self.old.rings h }
         ensures spare { self.new.spare_heads ≡ self.old.spare_heads + 1 }
-        ensures same { (self.new.loose ≡ self.old.loose) × (self.new.tags ≡ self.old.tags) × (self.new.spare_members ≡ self.old.spare_members) }
+        ensures same { (self.new.loose ≡ self.old.loose)
+            × (self.new.tags ≡ self.old.tags)
+            × (self.new.spare_members ≡ self.old.spare_members) }
         ensures apart { AreApart self.new }
     {
         let next = next_free(self.free, self.first_free, h.slot);
@@ -378,7 +412,9 @@ impl Rings {
     /// The member behind `m`, and the first behind the last.
     pub fn cyclic_next(&self, m: Member) -> Member
         requires { IsLinked self.now m }
-        ensures next { (h : ℕ) (before : List ℕ) (behind : List ℕ) → StandsBetween self.now h m before behind → Some result ≡ front (behind ++ before ++ m ∷ []) }
+        ensures next { (h : ℕ) (before : List ℕ) (behind : List ℕ)
+            → StandsBetween self.now h m before behind
+            → Some result ≡ front (behind ++ before ++ m ∷ []) }
         ensures apart { AreApart self.now }
     {
         let first = self.first(self.head_of(m));
@@ -388,7 +424,9 @@ impl Rings {
     /// The member before `m`, and the last before the first.
     pub fn cyclic_prev(&self, m: Member) -> Member
         requires { IsLinked self.now m }
-        ensures prev { (h : ℕ) (before : List ℕ) (behind : List ℕ) → StandsBetween self.now h m before behind → Some result ≡ back (m ∷ behind ++ before) }
+        ensures prev { (h : ℕ) (before : List ℕ) (behind : List ℕ)
+            → StandsBetween self.now h m before behind
+            → Some result ≡ back (m ∷ behind ++ before) }
         ensures apart { AreApart self.now }
     {
         let last = self.last(self.head_of(m));
@@ -444,7 +482,9 @@ fn claim(
     requires room { nodes.old.len < free.old + nodes.old.room }
     requires within { nodes.old.len ≤ nodes.old.room }
     requires small { nodes.old.room ≤ 2 ^ 26 }
-    ensures { Claimed nodes.old nodes.new first_free.new free.old free.new seen.now.view.free result value state }
+    ensures { Claimed nodes.old nodes.new first_free.new free.old free.new seen.now.view.free result
+        value
+        state }
 {
     if *free == 0 {
         let slot = nodes.len();

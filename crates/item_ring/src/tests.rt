@@ -3,13 +3,13 @@ ghost use Rattle.std.specs.Prelude.{◌≡◌, ◌+◌, ◌*◌, ◌<◌, ◌≤
 ghost use Rattle.std.specs.FinMap as map;
 ghost use Rattle.item_ring.specs.RingLists.{IsHead, IsLinkedIn, IsLoose, ring};
 
-use super::{Head, Member, RingRefusal, Rings};
+use super::{Head, MOST_NODES, Member, RingRefusal, Rings};
 use std::alloc::Global;
 
 /// Puts a new member at the front.
 fn add_front(rings: &mut Rings, h: Head, mid: Member, tag: u32) -> Result<Member, RingRefusal>
     requires linked { IsLinkedIn rings.old h mid }
-    requires few { map.len rings.old.tags < 16777215 }
+    requires few { map.len rings.old.tags < MOST_NODES }
     ensures linked { IsLinkedIn rings.new h mid }
     ensures more { map.len rings.new.tags ≤ map.len rings.old.tags + 1 }
 {
@@ -21,7 +21,7 @@ fn add_front(rings: &mut Rings, h: Head, mid: Member, tag: u32) -> Result<Member
 /// Puts a new member at the back.
 fn add_back(rings: &mut Rings, h: Head, mid: Member, tag: u32) -> Result<Member, RingRefusal>
     requires linked { IsLinkedIn rings.old h mid }
-    requires few { map.len rings.old.tags < 16777215 }
+    requires few { map.len rings.old.tags < MOST_NODES }
     ensures linked { IsLinkedIn rings.new h mid }
     ensures more { map.len rings.new.tags ≤ map.len rings.old.tags + 1 }
 {
@@ -33,7 +33,7 @@ fn add_back(rings: &mut Rings, h: Head, mid: Member, tag: u32) -> Result<Member,
 /// Puts a new member right behind `mid`.
 fn add_behind(rings: &mut Rings, h: Head, mid: Member, tag: u32) -> Result<Member, RingRefusal>
     requires linked { IsLinkedIn rings.old h mid }
-    requires few { map.len rings.old.tags < 16777215 }
+    requires few { map.len rings.old.tags < MOST_NODES }
     ensures linked { IsLinkedIn rings.new h mid }
     ensures more { map.len rings.new.tags ≤ map.len rings.old.tags + 1 }
 {
@@ -64,7 +64,7 @@ fn spread(
     rounds: u32,
 ) -> Result<(Member, [Member; 3]), RingRefusal>
     requires linked { IsLinkedIn rings.old h mid }
-    requires few { map.len rings.old.tags + 3 * rounds + 3 ≤ 16777215 }
+    requires few { map.len rings.old.tags + 3 * rounds + 3 ≤ MOST_NODES }
     ensures linked { IsLinkedIn rings.new h mid }
 {
     let start = add_front(rings, h, mid, 0)?;

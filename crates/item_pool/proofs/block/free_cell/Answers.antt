@@ -1,3 +1,4 @@
+-- The cell of a new block at the index.
 use Rattle.std.proofs.Common.{◌≡◌, ◌+◌, ◌-◌, get_or, sym, ◌∙◌, arith}
 use Rattle.item_pool.specs.Chained.{blank, chained}
 use Rattle.item_pool.specs.declared.block.Cell.{Cell}

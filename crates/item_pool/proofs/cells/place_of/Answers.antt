@@ -1,3 +1,4 @@
+-- The highest bit tells the block.
 use Rattle.std.proofs.Common.{◌≡◌, ◌+◌, ◌-◌, ◌*◌, ◌%◌, ◌^◌, subst, sym, arith}
 use Rattle.std.proofs.lemmas.Nat.{one_shl}
 use Rattle.item_pool.specs.Joined.{LiesAt}

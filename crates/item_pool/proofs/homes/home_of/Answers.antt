@@ -1,3 +1,4 @@
+-- The last bits of a number are its rest by a power of two.
 use Rattle.std.proofs.Common.{◌-◌, ◌%◌, bit_and, sym, ap, ◌∙◌}
 use Rattle.std.proofs.lemmas.Nat.{and_mask}
 use Rattle.item_pool.proofs.homes.home_of.Goals as goal

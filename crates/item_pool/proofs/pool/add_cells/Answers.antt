@@ -1,3 +1,4 @@
+-- A new block is chained in front.
 use Rattle.std.proofs.Common.{◌+◌, ◌<◌, arith}
 use Rattle.item_pool.proofs.PoolSteps.{grown_chain, grown_long, is_grown, grown_more}
 use Rattle.item_pool.proofs.pool.add_cells.Goals as goal

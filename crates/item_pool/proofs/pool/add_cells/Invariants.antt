@@ -1,3 +1,4 @@
+-- The free cells are one chain, and the live ones stay.
 use Rattle.std.proofs.Common.{◌≡◌, ◌+◌, ◌-◌, ◌<◌, ◌≤◌, ◌^◌, length}
 use Rattle.item_pool.specs.CellsKept.{cell_at, IsChain, IsGrown}
 use Rattle.item_pool.proofs.pool.add_cells.Given as goal

@@ -1,3 +1,4 @@
+-- The order of the list is that of its nodes.
 use Rattle.std.proofs.Common.{rules}
 use Rattle.item_queue.proofs.Sorting.{in_order}
 use Rattle.item_queue.proofs.node.sorted.Goals as goal

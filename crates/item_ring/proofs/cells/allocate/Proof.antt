@@ -1,7 +1,7 @@
 -- `allocate` lends its handle to the allocator for one call, and asks for the bytes of `len` values.
 -- A block comes as room and a token. The room becomes the owner of `len` empty places, the token the deed, and both go out beside the link to the first place.
 -- A refusal is passed on, with nothing made. Assumes `Logic`.
-use Rattle.item_ring.proofs.Steps.{◌≡◌, refl, ap, true, false, ◌*◌, ◌<◌, ◌^◌, arith, [], ◌∷◌, replicate, w64, Val, vint, emp, fact_i, flft, Incl-trans, fact, ◌⊑◌, tables, toks, ‵, raw, ◌⊛◌, later, prop, at_ret, Sq, ◌$◌, ◌∵◌, !, qed, by, move, keep, drop, use0, use1, use2, split, fsplit, fsplit3, await, whole, agg, vrt, in_variant, stop, fld, lit, of_opd, bin, size_word, align_word, and_then, no_more, first, exec, returns, returns_within, enter, switches_on, alloc_all, pass_all, free_all, look_at, get, get_in, get_tag, is, sets, sets_last, lands_as, env, heard, proved, shr_vals, shr_Tells, uint_vals, uint_Tells, named, owns, ShrRef, usize, framed, calls_at, walk_of, None, IfOk, Err, FitsInBlock, Al, Answer-typed, Takes, Answered, answers, El, R, args, P, uncapped, block_ty, inst_fn, lit<, block_ptr, after, head, arm_body, word-Good, size, Spent, all_go, returned, then_on, Handed, handed, handed_out, refused, refused_val, handed_val, Three, three_val, Good, layout, Asking, asks, answered}
+use Rattle.item_ring.proofs.WalkNames.{◌≡◌, refl, ap, true, false, ◌*◌, ◌<◌, ◌^◌, arith, [], ◌∷◌, replicate, w64, Val, vint, emp, fact_i, flft, Incl-trans, fact, ◌⊑◌, tables, toks, ‵, raw, ◌⊛◌, later, prop, at_ret, Sq, ◌$◌, ◌∵◌, !, qed, by, move, keep, drop, use0, use1, use2, split, fsplit, fsplit3, await, whole, agg, vrt, in_variant, stop, fld, lit, of_opd, bin, size_word, align_word, and_then, no_more, first, exec, returns, returns_within, enter, switches_on, alloc_all, pass_all, free_all, look_at, get, get_in, get_tag, is, sets, sets_last, lands_as, env, heard, proved, shr_vals, shr_Tells, uint_vals, uint_Tells, named, owns, ShrRef, usize, framed, calls_at, walk_of, None, IfOk, Err, FitsInBlock, Al, Answer-typed, Takes, Answered, answers, El, R, args, P, uncapped, block_ty, inst_fn, lit<, block_ptr, after, head, arm_body, word-Good, size, Spent, all_go, returned, then_on, Handed, handed, handed_out, refused, refused_val, handed_val, Three, three_val, Good, layout, Asking, asks, answered}
 use Rattle.item_ring.specs.contracts.cells.allocate as contract
 use Rattle.item_ring.specs.contracts.cells.allocate.Key.{name}
 use Rattle.item_ring.proofs.cells.allocate.Statement.{statement}

@@ -1,6 +1,6 @@
 -- `deallocate` takes the owner and the deed apart: places that stand one behind another are room again, whatever they hold, and the deed is the allocator's token.
 -- Both go back to the allocator, which keeps them. Assumes `Logic`.
-use Rattle.item_ring.proofs.Steps.{◌≡◌, refl, ap, subst, sym, ◌*◌, ◌<◌, ◌^◌, arith, List, [], ◌∷◌, w64, ty_unit, Val, vint, vunit, emp, id⊢, flft, Incl-trans, fact, ◌⊑◌, tables, toks, ‵, raw, ◌⊛◌, given, later, at_ret, ◌$◌, ◌∵◌, !, qed, by, move, keep, drop, use1, split, group, learn, fsplit, fsplit3, feq_i, await, whole, sub, stop, fld, of_opd, unit_lit, bin, size_word, align_word, and_then, no_more, first, blocks, exec, returns, enter, alloc_all, pass_all, free_all, look_at, get, get_in, is, sets, lands_last, env, heard, proved, shr_vals, shr_Tells, uint_vals, uint_Tells, named, owns, ShrRef, usize, framed, calls_at_last, walk_of, Al, Gives, El, R, args, P, uncapped, inst_fn, ptr_val, after, Good, word-Good, size, Ln, Cr, De, Spent, all_go, returned, param_laws, OfOne, handed_in, Giving, gives, gave}
+use Rattle.item_ring.proofs.WalkNames.{◌≡◌, refl, ap, subst, sym, ◌*◌, ◌<◌, ◌^◌, arith, List, [], ◌∷◌, w64, ty_unit, Val, vint, vunit, emp, id⊢, flft, Incl-trans, fact, ◌⊑◌, tables, toks, ‵, raw, ◌⊛◌, given, later, at_ret, ◌$◌, ◌∵◌, !, qed, by, move, keep, drop, use1, split, group, learn, fsplit, fsplit3, feq_i, await, whole, sub, stop, fld, of_opd, unit_lit, bin, size_word, align_word, and_then, no_more, first, blocks, exec, returns, enter, alloc_all, pass_all, free_all, look_at, get, get_in, is, sets, lands_last, env, heard, proved, shr_vals, shr_Tells, uint_vals, uint_Tells, named, owns, ShrRef, usize, framed, calls_at_last, walk_of, Al, Gives, El, R, args, P, uncapped, inst_fn, ptr_val, after, Good, word-Good, size, Ln, Cr, De, Spent, all_go, returned, param_laws, OfOne, handed_in, Giving, gives, gave}
 use Rattle.item_ring.specs.contracts.cells.deallocate as contract
 use Rattle.item_ring.specs.contracts.cells.deallocate.Key.{name}
 use Rattle.item_ring.proofs.cells.deallocate.Statement.{statement}

@@ -1,3 +1,4 @@
+-- There are more slots, and no cell is another.
 use Rattle.std.proofs.Common.{◌≡◌, ℕ, ◌-◌, ◌≤◌, ◌^◌}
 use Rattle.item_ring.specs.Nodes.{cell_at}
 use Rattle.item_ring.proofs.rings.grow_to.Given as goal

@@ -1,3 +1,4 @@
+-- What the caller picked.
 use Rattle.item_ring.proofs.seen.show.Given as goal
 
 abbrev pub ghost-becomes : goal.ghost-becomes

@@ -1,3 +1,4 @@
+-- What holds from round to round.
 use Rattle.std.proofs.Common.{ℕ, ◌+◌, ◌*◌, ◌≤◌}
 use Rattle.std.specs.FinMap as map
 use Rattle.item_ring.specs.RingLists.{RingLists, IsLinkedIn}

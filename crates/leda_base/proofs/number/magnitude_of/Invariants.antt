@@ -1,3 +1,4 @@
+-- The number of the digits that were read, or the greatest.
 use Rattle.std.proofs.Common.{◌≡◌, ◌-◌, ◌^◌, min, take}
 use Rattle.std.specs.List.{fold}
 use Rattle.leda_base.specs.Decimal.{with_digit}

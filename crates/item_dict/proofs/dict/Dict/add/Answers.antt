@@ -1,3 +1,4 @@
+-- The pool has the entry, and then the tree its serial.
 use Rattle.std.proofs.Common.{◌+◌, Some, ap, ◌∙◌, subst, w64}
 use Rattle.std.proofs.lemmas.Int.{to_z-of_z}
 use Rattle.std.specs.Ordering.{int_cmp}

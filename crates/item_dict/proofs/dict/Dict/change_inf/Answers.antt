@@ -1,3 +1,4 @@
+-- The entry keeps its key.
 use Rattle.std.proofs.Common.{◌≡◌, ℤ, refl, sym, subst}
 use Rattle.std.specs.FinMap as map
 use Rattle.item_dict.specs.declared.dict.Dict.TheInside.{Inside}

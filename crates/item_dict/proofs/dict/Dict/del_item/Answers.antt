@@ -1,3 +1,4 @@
+-- The entry and its key go together.
 use Rattle.std.proofs.Common.{rules, None, ◌∙◌, subst, w64}
 use Rattle.std.proofs.lemmas.Int.{to_z-of_z}
 use Rattle.std.specs.Prelude.{FitsSigned}

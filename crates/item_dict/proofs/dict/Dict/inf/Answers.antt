@@ -1,3 +1,4 @@
+-- The entry of the item has the information.
 use Rattle.std.proofs.Common.{subst}
 use Rattle.item_dict.specs.Contents.{Contents, Holds, Lacks}
 use Rattle.item_dict.proofs.Steps.{held, lacks}

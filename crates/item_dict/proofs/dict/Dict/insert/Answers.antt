@@ -1,3 +1,4 @@
+-- A key that is there keeps its item.
 use Rattle.std.proofs.Common.{subst, w64}
 use Rattle.std.proofs.lemmas.Int.{to_z-of_z}
 use Rattle.item_dict.specs.Contents.{HasKey}

@@ -1,3 +1,4 @@
+-- The entry of the item has the key.
 use Rattle.std.proofs.Common.{rules, sym, subst, w64}
 use Rattle.std.proofs.lemmas.Int.{to_z-of_z}
 use Rattle.std.specs.Prelude.{FitsSigned}

@@ -1,3 +1,4 @@
+-- The tree has the serial of each key.
 use Rattle.std.proofs.Common.{Some, sym, ap, ◌∙◌, subst, w64}
 use Rattle.std.proofs.lemmas.Int.{to_z-of_z}
 use Rattle.std.specs.Ordering.{int_cmp}

@@ -1,3 +1,4 @@
+-- The tree has the greatest key.
 use Rattle.std.proofs.Common.{Some, sym, ap, ◌∙◌, subst}
 use Rattle.item_dict.specs.Contents.{Contents, HasKey}
 use Rattle.item_dict.specs.Index.{seen, serials_of, IsNamed}

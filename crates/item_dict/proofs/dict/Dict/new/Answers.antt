@@ -1,3 +1,4 @@
+-- There is no key.
 use Rattle.std.proofs.Common.{ap}
 use Rattle.std.specs.FinMap as map
 use Rattle.item_dict.specs.Contents.{contents}

@@ -1,3 +1,4 @@
+-- The tree has the least key above.
 use Rattle.std.proofs.Common.{rules, sym, subst, w64}
 use Rattle.std.proofs.lemmas.Int.{to_z-of_z}
 use Rattle.std.specs.Prelude.{ℤ, FitsSigned}

@@ -1,3 +1,4 @@
+-- All places are emptied before the block is given back.
 use Rattle.std.proofs.Common.{◌≡◌, ◌<◌, get_or, set, length, replicate, None, sym, ap, ◌∙◌, arith, add-one}
 use Rattle.item_pool.specs.Chained.{blank}
 use Rattle.item_pool.specs.Filled.{somes}

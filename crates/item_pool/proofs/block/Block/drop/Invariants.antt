@@ -1,3 +1,4 @@
+-- The places before the index are empty, and the others hold their cells.
 use Rattle.std.proofs.Common.{◌≡◌}
 use Rattle.item_pool.specs.Filled.{somes}
 use Rattle.item_pool.proofs.Blocks.{emptied_to}

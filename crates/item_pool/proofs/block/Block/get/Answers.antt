@@ -1,3 +1,4 @@
+-- Each place of a block holds its cell.
 use Rattle.std.proofs.Common.{◌<◌, length, sym, ◌∙◌, subst, get_or, ◌≡◌, Some}
 use Rattle.item_pool.specs.Chained.{blank}
 use Rattle.item_pool.specs.Filled.{somes}

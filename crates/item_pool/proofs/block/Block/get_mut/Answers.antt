@@ -1,3 +1,4 @@
+-- Each place of a block holds its cell, and the lent one comes back.
 use Rattle.std.proofs.Common.{◌<◌, length, sym, ap, ◌∙◌, subst, get_or, set, ◌≡◌, Some, refl, length-set}
 use Rattle.item_pool.specs.Chained.{blank}
 use Rattle.item_pool.specs.Filled.{somes}

@@ -1,3 +1,4 @@
+-- A block of empty places is filled with free cells.
 use Rattle.std.proofs.Common.{◌≡◌, ◌<◌, get_or, set, length, replicate, map, Some, None, sym, ap, ◌∙◌, arith, add-one}
 use Rattle.item_pool.specs.Chained.{blank, chained}
 use Rattle.item_pool.specs.Filled.{somes}

@@ -1,3 +1,4 @@
+-- The places before the index have their free cells, and the others are empty.
 use Rattle.std.proofs.Common.{◌≡◌}
 use Rattle.item_pool.specs.Chained.{chained}
 use Rattle.item_pool.proofs.Blocks.{filled_to}

@@ -1,3 +1,4 @@
+-- The slot lies in its block, at its place.
 use Rattle.std.proofs.Common.{◌≡◌, ◌<◌, [], get_or, length, sym, ap, ◌∙◌, subst, arith}
 use Rattle.item_pool.specs.Chained.{blank}
 use Rattle.item_pool.specs.Joined.{joined}

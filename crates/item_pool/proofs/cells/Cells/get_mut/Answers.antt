@@ -1,3 +1,4 @@
+-- The slot lies in its block, at its place, and only that cell changes.
 use Rattle.std.proofs.Common.{◌≡◌, ◌<◌, [], get_or, set, length, refl, sym, ap, ◌∙◌, subst, arith, length-set}
 use Rattle.item_pool.specs.Chained.{blank}
 use Rattle.item_pool.specs.Joined.{joined}

@@ -1,3 +1,4 @@
+-- A block more, twice as long as the one before.
 use Rattle.std.proofs.Common.{◌≡◌, ◌+◌, [], ◌∷◌, ◌++◌, sym, ap, ◌∙◌, subst, length}
 use Rattle.item_pool.specs.Chained.{chained}
 use Rattle.item_pool.specs.Joined.{block_size, joined, AreBlocks}

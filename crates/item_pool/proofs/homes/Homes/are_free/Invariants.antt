@@ -1,3 +1,4 @@
+-- The homes that were looked at are free.
 use Rattle.std.proofs.Common.{ℕ, ◌+◌, ◌<◌}
 use Rattle.item_pool.specs.Homes.{IsFree}
 use Rattle.item_pool.proofs.homes.Homes.are_free.Given as goal

@@ -1,3 +1,4 @@
+-- The homes are there twice, or as before where there was no memory.
 use Rattle.std.proofs.Common.{length, is_ok, sym, ap, subst, ◌∙◌, eqb-true}
 use Rattle.item_pool.specs.Homes.{at_home, StayFree}
 use Rattle.item_pool.proofs.AtHome.{doubled_homes, doubled_at_home, doubled_free, first_homes}

@@ -1,3 +1,4 @@
+-- Who is at home stays there, and who has a free home keeps one.
 use Rattle.std.proofs.Common.{◌≡◌, ℕ, ◌-◌, length}
 use Rattle.item_pool.specs.Homes.{at_home, StayFree}
 use Rattle.item_pool.proofs.homes.Homes.widen.Given as goal

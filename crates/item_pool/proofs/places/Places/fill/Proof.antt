@@ -1,5 +1,5 @@
 -- `fill` opens the `&mut` to the owner at the empty place, puts the value into its room, and shuts the owner over it. Assumes `Logic`.
-use Rattle.item_pool.proofs.Steps.{◌≡◌, refl, ap, sym, subst, ◌∙◌, ◌+◌, ◌*◌, ◌<◌, List, [], ◌∷◌, length, w64, Val, vunit, emp, ent, sep, fact_i, flft, fact, ◌⊑◌, tables, toks, ‵, raw, ◌⊛◌, at_ret, ◌$◌, ◌∵◌, !, qed, by, move, keep, drop, use0, split, join, fsplit3, fjoin, feq_i, frame, suffices, whole, sub, stop, fld, init, of_opd, unit_lit, assigns_last, through, first, blocks, exec, returns, enter, alloc_all, pass_all, free_all, look_at, get, get_in, is, sets, env, heard, opens, closes, proved_at, leaves, mut_vals, mut_Tells, uint_vals, uint_Tells, named, yes, no, owns, flat, types_at, Vals, Lasts, MutRef, usize, plain, on_entry, WpFn, Stays, stay_ref, Goes-ref, walk_of, El, R, inst_fn, after, word-Good, size, St, Pl, spent, all_go, nothing_left, has_of, near, opened, shut, with_row, place, Place, set, get_or, None, Some, value_in, fat, full_share, layout, elτ, Ptr, word, size_word, bin, uncapped, vint, take_at, give_at, rewrite, use2, as_written, param_laws}
+use Rattle.item_pool.proofs.WalkNames.{◌≡◌, refl, ap, sym, subst, ◌∙◌, ◌+◌, ◌*◌, ◌<◌, List, [], ◌∷◌, length, w64, Val, vunit, emp, ent, sep, fact_i, flft, fact, ◌⊑◌, tables, toks, ‵, raw, ◌⊛◌, at_ret, ◌$◌, ◌∵◌, !, qed, by, move, keep, drop, use0, split, join, fsplit3, fjoin, feq_i, frame, suffices, whole, sub, stop, fld, init, of_opd, unit_lit, assigns_last, through, first, blocks, exec, returns, enter, alloc_all, pass_all, free_all, look_at, get, get_in, is, sets, env, heard, opens, closes, proved_at, leaves, mut_vals, mut_Tells, uint_vals, uint_Tells, named, yes, no, owns, flat, types_at, Vals, Lasts, MutRef, usize, plain, on_entry, WpFn, Stays, stay_ref, Goes-ref, walk_of, El, R, inst_fn, after, word-Good, size, St, Pl, spent, all_go, nothing_left, has_of, near, opened, shut, with_row, place, Place, set, get_or, None, Some, value_in, fat, full_share, layout, elτ, Ptr, word, size_word, bin, uncapped, vint, take_at, give_at, rewrite, use2, as_written, param_laws}
 use Rattle.core.proofs.mem.Param.{args, one, lawful}
 use Rattle.item_pool.specs.contracts.places.Places.fill as contract
 use Rattle.item_pool.specs.contracts.places.Places.fill.Key.{name}

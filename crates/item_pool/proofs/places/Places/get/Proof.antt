@@ -1,5 +1,5 @@
 -- `get` counts the bytes up to the place, and lends what stands there for as long as the owner itself is lent: a `&` to the owner has a `&` to each value. Assumes `Logic`.
-use Rattle.item_pool.proofs.Steps.{◌≡◌, refl, ap, ◌∙◌, ◌+◌, ◌*◌, List, [], ◌∷◌, length, get_or, w64, Val, vint, vptr, emp, fact_i, flft, fact, ◌⊑◌, tables, toks, ‵, raw, ◌⊛◌, at_ret, ◌$◌, ◌∵◌, !, qed, by, move, keep, drop, use1, split, fsplit, fsplit3, fjoin, feq_i, rewrite, whole, sub, stop, fld, of_opd, addr, through, first, blocks, exec, returns, enter, alloc_all, pass_all, free_all, look_at, get, get_in, is, sets, sets_last, env, heard, hide, proved, shr_vals, shr_Tells, uint_vals, uint_Tells, named, owns, ShrRef, usize, walk_of, None, El, R, Place, IsFilled, inst_fn, after, word-Good, size, size_word, bin, uncapped, near, take_at, give_at, fat, full_share, layout, word, Ptr, param_laws, St, Pl, Spent, all_go, returned, looks_into, place_lent, place_seen, in_row}
+use Rattle.item_pool.proofs.WalkNames.{◌≡◌, refl, ap, ◌∙◌, ◌+◌, ◌*◌, List, [], ◌∷◌, length, get_or, w64, Val, vint, vptr, emp, fact_i, flft, fact, ◌⊑◌, tables, toks, ‵, raw, ◌⊛◌, at_ret, ◌$◌, ◌∵◌, !, qed, by, move, keep, drop, use1, split, fsplit, fsplit3, fjoin, feq_i, rewrite, whole, sub, stop, fld, of_opd, addr, through, first, blocks, exec, returns, enter, alloc_all, pass_all, free_all, look_at, get, get_in, is, sets, sets_last, env, heard, hide, proved, shr_vals, shr_Tells, uint_vals, uint_Tells, named, owns, ShrRef, usize, walk_of, None, El, R, Place, IsFilled, inst_fn, after, word-Good, size, size_word, bin, uncapped, near, take_at, give_at, fat, full_share, layout, word, Ptr, param_laws, St, Pl, Spent, all_go, returned, looks_into, place_lent, place_seen, in_row}
 use Rattle.core.proofs.mem.Param.{args}
 use Rattle.item_pool.specs.contracts.places.Places.get as contract
 use Rattle.item_pool.specs.contracts.places.Places.get.Key.{name}

@@ -1,6 +1,6 @@
 -- `get_mut` opens the `&mut` to the owner at the filled place and lends the value that is there. What is kept of the owner says how it comes back:
 -- with whatever the value is at last, in that place. Assumes `Logic`.
-use Rattle.item_pool.proofs.Steps.{◌≡◌, refl, ap, ◌∙◌, ◌+◌, ◌*◌, [], ◌∷◌, length, w64, emp, fact_i, flft, fact, ◌⊑◌, tables, toks, ‵, raw, ◌⊛◌, at_ret, ◌$◌, ◌∵◌, !, qed, by, move, keep, drop, split, join, fsplit3, fjoin, frame, suffices, whole, sub, stop, fld, of_opd, through, first, blocks, exec, returns, enter, alloc_all, pass_all, free_all, look_at, get, get_in, is, sets, env, heard, opens, mut_vals, mut_Tells, uint_vals, uint_Tells, named, owns, MutBor, MutRef, usize, walk_of, El, R, inst_fn, after, word-Good, size, St, Pl, all_go, near, opened, with_row, place, Place, set, Some, fat, full_share, layout, Ptr, word, size_word, bin, uncapped, vint, take_at, give_at, rewrite, use1, param_laws, proved, some, pick, sets_last, in_row, IsFilled, Spent, hands_out, Kept, comes_back, follows, Part, lends_Part, later, await, group, GName, addr, vptr, id⊢}
+use Rattle.item_pool.proofs.WalkNames.{◌≡◌, refl, ap, ◌∙◌, ◌+◌, ◌*◌, [], ◌∷◌, length, w64, emp, fact_i, flft, fact, ◌⊑◌, tables, toks, ‵, raw, ◌⊛◌, at_ret, ◌$◌, ◌∵◌, !, qed, by, move, keep, drop, split, join, fsplit3, fjoin, frame, suffices, whole, sub, stop, fld, of_opd, through, first, blocks, exec, returns, enter, alloc_all, pass_all, free_all, look_at, get, get_in, is, sets, env, heard, opens, mut_vals, mut_Tells, uint_vals, uint_Tells, named, owns, MutBor, MutRef, usize, walk_of, El, R, inst_fn, after, word-Good, size, St, Pl, all_go, near, opened, with_row, place, Place, set, Some, fat, full_share, layout, Ptr, word, size_word, bin, uncapped, vint, take_at, give_at, rewrite, use1, param_laws, proved, some, pick, sets_last, in_row, IsFilled, Spent, hands_out, Kept, comes_back, follows, Part, lends_Part, later, await, group, GName, addr, vptr, id⊢}
 use types.Logic.{sem}
 use Rattle.core.proofs.mem.Param.{args}
 use Rattle.item_pool.specs.contracts.places.Places.get_mut as contract

@@ -1,5 +1,5 @@
 -- `take` opens the `&mut` to the owner at the filled place, reads the value out of it, and shuts the owner over the room that is left. Assumes `Logic`.
-use Rattle.item_pool.proofs.Steps.{◌≡◌, refl, ap, ◌∙◌, ◌+◌, ◌*◌, List, [], ◌∷◌, length, w64, Val, emp, fact_i, flft, fact, ◌⊑◌, tables, toks, ‵, raw, ◌⊛◌, at_ret, ◌$◌, ◌∵◌, !, qed, move, keep, drop, use0, split, join, fsplit3, fjoin, feq_i, frame, suffices, whole, sub, stop, fld, of_opd, through, first, blocks, exec, returns, enter, alloc_all, pass_all, free_all, look_at, get, get_in, is, sets, env, heard, opens, closes, leaves, mut_vals, mut_Tells, uint_vals, uint_Tells, named, yes, no, owns, Lasts, MutRef, usize, plain, Stays, stay_ref, Goes-ref, walk_of, El, R, inst_fn, after, word-Good, size, St, Pl, spent, all_go, nothing_left, has_of, near, opened, shut, with_row, place, Place, set, get_or, None, Some, fat, froom, full_share, layout, elτ, Ptr, word, size_word, bin, uncapped, vint, take_at, give_at, rewrite, use1, use2, done, param_laws, proved, some, given, pick, learn, load, look, sets_last, as_raw, value_out, in_row, IsFilled, Good}
+use Rattle.item_pool.proofs.WalkNames.{◌≡◌, refl, ap, ◌∙◌, ◌+◌, ◌*◌, List, [], ◌∷◌, length, w64, Val, emp, fact_i, flft, fact, ◌⊑◌, tables, toks, ‵, raw, ◌⊛◌, at_ret, ◌$◌, ◌∵◌, !, qed, move, keep, drop, use0, split, join, fsplit3, fjoin, feq_i, frame, suffices, whole, sub, stop, fld, of_opd, through, first, blocks, exec, returns, enter, alloc_all, pass_all, free_all, look_at, get, get_in, is, sets, env, heard, opens, closes, leaves, mut_vals, mut_Tells, uint_vals, uint_Tells, named, yes, no, owns, Lasts, MutRef, usize, plain, Stays, stay_ref, Goes-ref, walk_of, El, R, inst_fn, after, word-Good, size, St, Pl, spent, all_go, nothing_left, has_of, near, opened, shut, with_row, place, Place, set, get_or, None, Some, fat, froom, full_share, layout, elτ, Ptr, word, size_word, bin, uncapped, vint, take_at, give_at, rewrite, use1, use2, done, param_laws, proved, some, given, pick, learn, load, look, sets_last, as_raw, value_out, in_row, IsFilled, Good}
 use Rattle.core.proofs.mem.Param.{args}
 use Rattle.item_pool.specs.contracts.places.Places.take as contract
 use Rattle.item_pool.specs.contracts.places.Places.take.Key.{name}

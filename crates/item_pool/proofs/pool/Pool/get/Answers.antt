@@ -1,3 +1,4 @@
+-- The cell that the table leads to has the value.
 use Rattle.std.proofs.Common.{◌≡◌, Some, None, sym, ap, ◌∙◌, subst}
 use Rattle.item_pool.specs.Table.{slot_of}
 use Rattle.item_pool.specs.Contents.{Contents, Holds, Lacks}

@@ -1,3 +1,4 @@
+-- The cell that the table leads to has the value, and what is written to it is kept.
 use Rattle.std.proofs.Common.{◌≡◌, min, Some, None, set, refl, sym, ap, ◌∙◌, subst, inl, inr}
 use Rattle.item_pool.specs.Table.{slot_of}
 use Rattle.std.specs.FinMap as map

@@ -1,3 +1,4 @@
+-- The table has the live serials alone.
 use Rattle.std.proofs.Common.{◌≡◌, Some, None, refl, sym, ◌∙◌, subst}
 use Rattle.item_pool.specs.Table.{slot_of}
 use Rattle.item_pool.specs.Contents.{HasLive, Lacks}

@@ -1,3 +1,4 @@
+-- There are no cells.
 use Rattle.std.proofs.Common.{refl}
 use Rattle.item_pool.proofs.PoolSteps.{empty_pool}
 use Rattle.item_pool.proofs.pool.Pool.new.Goals as goal

@@ -1,3 +1,4 @@
+-- The cell is the first of the chain from then on.
 use Rattle.std.proofs.Common.{◌≡◌, ◌+◌, ◌-◌, ◌≤◌, min, Some, None, refl, sym, ◌∙◌, subst, arith}
 use Rattle.item_pool.specs.Table.{slot_of}
 use Rattle.item_pool.specs.declared.pool.Pool.TheInside.{Inside}

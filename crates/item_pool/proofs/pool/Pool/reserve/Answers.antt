@@ -1,3 +1,4 @@
+-- The live cells stay, and the table leads to them as before.
 use Rattle.std.proofs.Common.{refl}
 use Rattle.item_pool.proofs.PoolSteps.{grow_pool}
 use Rattle.item_pool.proofs.pool.Pool.reserve.Goals as goal

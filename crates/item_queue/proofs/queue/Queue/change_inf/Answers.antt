@@ -1,3 +1,4 @@
+-- The entry keeps its handle and its priority.
 use Rattle.std.proofs.Common.{sym, ap, ◌∙◌, subst}
 use Rattle.std.proofs.lemmas.Result.{err_from_is_err_and}
 use Rattle.item_queue.specs.Contents.{Queued, Lacks, ChangesInformation}

@@ -1,6 +1,8 @@
+-- The entry and its node get the priority together.
 use Rattle.std.proofs.Common.{rules, w64, to_z, of_z, ◌≡◌, ◌<◌, ◌≤◌, length, min, sym, ap, ◌∙◌, subst, refl, arith}
 use Rattle.std.specs.Prelude.{FitsSigned, ◌≤ℤ◌}
 use Rattle.std.proofs.lemmas.Int.{to_z-of_z, ints}
+use Rattle.item_pool.specs.declared.pool.TheConstants.{MOST_SERIALS}
 use Rattle.item_queue.specs.Heap.{node_at, entry_of, priced_of, heap_room, HasOneLower, IsRated}
 use Rattle.item_queue.specs.Contents.{Queued, queued, Holds, HoldsPriority, Lacks}
 use Rattle.item_queue.specs.Decreases.{Decreases}
@@ -29,7 +31,7 @@ place_of-place-requires g c =
 pub lower-requires-clause-within : goal.lower-requires-clause-within
 lower-requires-clause-within g c =
     let f = c.self.inside in let i = c.self.invariant in let to = leads f.heap (entry_of f.pool) i.sound i.tied c.args.it.serial c.in-Ok.entry.now c.in-Ok.ensures.0 in
-    let few : length f.heap.nodes.items ≤ f.pool.made = i.few.0 in let most : f.pool.made ≤ 16777215 = i.few.1 in
+    let few : length f.heap.nodes.items ≤ f.pool.made = i.few.0 in let most : f.pool.made ≤ MOST_SERIALS = i.few.1 in
     (subst (λ k. k < f.heap.len) (sym c.place_of-place.ensures) to.0, omega (arith, few, most))
 
 pub lower-requires-clause-less : goal.lower-requires-clause-less
@@ -47,7 +49,7 @@ invariant_of-self g c =
     let low : HasOneLower f.heap h m c.args.p = subst (λ z. HasOneLower f.heap h m z) once c.lower.ensures.lower in
     let rated : IsRated f.pool q m.item.serial c.args.p = subst (λ j. IsRated f.pool q j c.args.p) (sym serial) (subst (λ z. IsRated f.pool q s z) once c.rate.ensures) in
     let had' = ap (entry_of f.pool) serial ∙ had in let long : length h.nodes.items ≡ length f.heap.nodes.items = c.lower.ensures.long.0.nodes in
-    let few : length f.heap.nodes.items ≤ f.pool.made = i.few.0 in let most : f.pool.made ≤ 16777215 = i.few.1 in let made : q.made ≡ f.pool.made = rated.made in
+    let few : length f.heap.nodes.items ≤ f.pool.made = i.few.0 in let most : f.pool.made ≤ MOST_SERIALS = i.few.1 in let made : q.made ≡ f.pool.made = rated.made in
     record {
       sound = c.lower.ensures.sound;
       tied = low_tied f.heap h m f.pool q c.args.p e i.tied low had' rated;

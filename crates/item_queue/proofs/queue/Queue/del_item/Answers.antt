@@ -1,5 +1,7 @@
+-- The entry and its node go together.
 use Rattle.std.proofs.Common.{◌≡◌, ◌<◌, ◌≤◌, length, min, sym, ap, ◌∙◌, subst, arith}
 use Rattle.std.proofs.lemmas.Result.{err_from_is_err_and}
+use Rattle.item_pool.specs.declared.pool.TheConstants.{MOST_SERIALS}
 use Rattle.item_pool.specs.Contents.{Contents, Removes as PoolRemoves}
 use Rattle.item_queue.specs.declared.node.Entry.{Entry}
 use Rattle.item_queue.specs.Heap.{node_at, entry_of, priced_of, heap_room}
@@ -25,7 +27,7 @@ place_of-place-requires g c =
 pub take_at-node-requires-clause-within : goal.take_at-node-requires-clause-within
 take_at-node-requires-clause-within g c =
     let f = c.self.inside in let i = c.self.invariant in let to = leads f.heap (entry_of f.pool) i.sound i.tied c.args.it.serial c.in_ok-handle.field-0 c.in_ok-handle.ensures.held.0 in
-    let few : length f.heap.nodes.items ≤ f.pool.made = i.few.0 in let most : f.pool.made ≤ 16777215 = i.few.1 in
+    let few : length f.heap.nodes.items ≤ f.pool.made = i.few.0 in let most : f.pool.made ≤ MOST_SERIALS = i.few.1 in
     (subst (λ k. k < f.heap.len) (sym c.place_of-place.ensures) to.0, omega (arith, few, most))
 
 pub invariant_of-self-2 : goal.invariant_of-self-2
@@ -35,7 +37,7 @@ invariant_of-self-2 g c =
     let serial : m.item.serial ≡ s = ap (λ k. (node_at f.heap.nodes.items k).item.serial) c.place_of-place.ensures ∙ to.1 in
     let out : PoolRemoves f.pool q m.item.serial e = subst (λ j. PoolRemoves f.pool q j e) (sym serial) c.in_ok-handle.ensures in
     let less = c.take_at-node.ensures.less in let long : length h.nodes.items ≡ length f.heap.nodes.items = c.take_at-node.ensures.long.0.nodes in
-    let few : length f.heap.nodes.items ≤ f.pool.made = i.few.0 in let most : f.pool.made ≤ 16777215 = i.few.1 in let made : q.made ≡ f.pool.made = out.made in
+    let few : length f.heap.nodes.items ≤ f.pool.made = i.few.0 in let most : f.pool.made ≤ MOST_SERIALS = i.few.1 in let made : q.made ≡ f.pool.made = out.made in
     record {
       sound = c.take_at-node.ensures.sound;
       tied = out_tied f.heap h m f.pool q e i.tied less out;

@@ -1,6 +1,8 @@
+-- The first node is the least.
 use Rattle.std.proofs.Common.{rules, w64, ◌≡◌, ◌<◌, ◌≤◌, length, min, Some, None, sym, ap, ◌∙◌, subst, refl, arith}
 use Rattle.std.specs.Prelude.{FitsSigned}
 use Rattle.std.proofs.lemmas.Int.{to_z-of_z}
+use Rattle.item_pool.specs.declared.pool.TheConstants.{MOST_SERIALS}
 use Rattle.item_pool.specs.Contents.{Removes as PoolRemoves}
 use Rattle.item_queue.specs.declared.node.Node.{Node}
 use Rattle.item_queue.specs.Heap.{node_at, entry, entry_of, heap_room}
@@ -28,7 +30,7 @@ invariant_of-self g c =
     let f = c.self.inside in let i = c.self.invariant in let h = c.take_at-node.new.self in let q = c.remove.new.self in let e = c.in-Ok.field-0 in let m = node_at f.heap.nodes.items 0 in
     let out : PoolRemoves f.pool q m.item.serial e = subst (λ (b : Node). PoolRemoves f.pool q b.item.serial e) c.take_at-node.ensures.taken c.in-Ok.ensures in
     let less = c.take_at-node.ensures.less in let long : length h.nodes.items ≡ length f.heap.nodes.items = c.take_at-node.ensures.long.0.nodes in
-    let few : length f.heap.nodes.items ≤ f.pool.made = i.few.0 in let most : f.pool.made ≤ 16777215 = i.few.1 in let made : q.made ≡ f.pool.made = out.made in
+    let few : length f.heap.nodes.items ≤ f.pool.made = i.few.0 in let most : f.pool.made ≤ MOST_SERIALS = i.few.1 in let made : q.made ≡ f.pool.made = out.made in
     record {
       sound = c.take_at-node.ensures.sound;
       tied = out_tied f.heap h m f.pool q e i.tied less out;

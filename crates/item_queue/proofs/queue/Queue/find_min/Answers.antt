@@ -1,3 +1,4 @@
+-- The first node is the least.
 use Rattle.std.proofs.Common.{◌<◌, List, min, sym, ap, ◌∙◌, subst, arith}
 use Rattle.item_queue.specs.declared.node.Node.{Node}
 use Rattle.item_queue.specs.Heap.{node_at, entry_of, heap_room}

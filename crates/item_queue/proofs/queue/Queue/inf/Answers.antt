@@ -1,3 +1,4 @@
+-- The entry of the item has the information.
 use Rattle.std.proofs.Common.{ap, ◌∙◌, subst}
 use Rattle.item_queue.specs.Heap.{priced_of}
 use Rattle.item_queue.specs.Contents.{Queued, Holds, Lacks}

@@ -1,6 +1,8 @@
+-- The entry and its node come together.
 use Rattle.std.proofs.Common.{w64, to_z, of_z, ◌≡◌, ◌+◌, ◌<◌, ◌≤◌, length, min, ap, ◌∙◌, subst, arith}
 use Rattle.std.specs.FinMap as map
 use Rattle.std.proofs.lemmas.Int.{to_z-of_z}
+use Rattle.item_pool.specs.declared.pool.TheConstants.{MOST_SERIALS}
 use Rattle.item_queue.specs.declared.node.Node.{Node}
 use Rattle.item_queue.specs.Heap.{priced_of, heap_room}
 use Rattle.item_queue.specs.Contents.{Queued, queued, Inserts}
@@ -13,7 +15,7 @@ pub invariant_of-self : goal.invariant_of-self
 invariant_of-self g c =
     let f = c.self.inside in let i = c.self.invariant in let h = c.insert.new.self in let q = c.insert_reserved-item.new.self in let ins = c.insert_reserved-item.ensures in
     let a : Node = record { priority = to_z w64 (of_z w64 c.args.p); item = c.insert_reserved-item.result; handle = c.next_handle-handle.result } in
-    let made : q.made ≡ f.pool.made + 1 = ins.made in let within : f.pool.made < 16777215 = ins.within in let few : length f.heap.nodes.items ≤ f.pool.made = i.few.0 in let long = c.insert.ensures.long in
+    let made : q.made ≡ f.pool.made + 1 = ins.made in let within : f.pool.made < MOST_SERIALS = ins.within in let few : length f.heap.nodes.items ≤ f.pool.made = i.few.0 in let long = c.insert.ensures.long in
     record {
       sound = c.insert.ensures.sound;
       tied = in_tied f.heap h a f.pool q c.args.i i.tied c.insert.ensures.more ins;

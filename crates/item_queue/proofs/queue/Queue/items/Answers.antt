@@ -1,3 +1,4 @@
+-- The nodes in order have the items.
 use Rattle.std.proofs.Common.{◌≡◌, List, take, ◌∙◌, ap, subst, sym}
 use Rattle.std.specs.List.Sorted.{IsPermutation}
 use Rattle.item_queue.specs.declared.node.Node.{Node}

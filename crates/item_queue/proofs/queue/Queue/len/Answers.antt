@@ -1,3 +1,4 @@
+-- There are as many nodes as entries.
 use Rattle.std.proofs.Common.{sym, ap, ◌∙◌}
 use Rattle.std.specs.FinMap as map
 use Rattle.item_queue.specs.Contents.{Queued}

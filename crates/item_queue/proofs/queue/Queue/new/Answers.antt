@@ -1,3 +1,4 @@
+-- There is no node.
 use Rattle.std.proofs.Common.{◌≡◌, ℕ, ◌<◌, min, Some, None, sym, ap, ◌∙◌, arith}
 use Rattle.std.specs.FinMap as map
 use Rattle.std.specs.Ordering.{nat_cmp}

@@ -1,3 +1,4 @@
+-- The entry of the item has the priority.
 use Rattle.std.proofs.Common.{rules, w64}
 use Rattle.std.specs.Prelude.{FitsSigned}
 use Rattle.std.proofs.lemmas.Int.{to_z-of_z}

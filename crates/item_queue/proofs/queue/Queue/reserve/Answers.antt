@@ -1,3 +1,4 @@
+-- There is more room, and nothing else changes.
 use Rattle.item_queue.proofs.Queues.{reserve_queue}
 use Rattle.item_queue.proofs.queue.Queue.reserve.Goals as goal
 

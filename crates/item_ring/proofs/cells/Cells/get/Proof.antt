@@ -1,5 +1,5 @@
 -- `get` follows the link, and lends what stands there for as long as the owner itself is lent: a `&` to the owner has a `&` to each value. Assumes `Logic`.
-use Rattle.item_ring.proofs.Steps.{◌≡◌, refl, ap, ◌+◌, ◌*◌, List, [], ◌∷◌, get_or, w64, Val, vptr, emp, fact_i, flft, fact, ◌⊑◌, tables, toks, ‵, raw, ◌⊛◌, at_ret, ◌$◌, ◌∵◌, !, qed, by, move, keep, drop, use1, split, fsplit, fsplit3, fjoin, feq_i, rewrite, whole, sub, stop, fld, of_opd, addr, through, first, blocks, exec, returns, enter, alloc_all, pass_all, free_all, look_at, get, get_in, is, sets, sets_last, env, heard, hide, proved, shr_vals, shr_Tells, uint_vals, uint_Tells, named, owns, ShrRef, usize, walk_of, None, El, R, Place, IsFilled, inst_fn, ptr_val, ◌+ₚ◌, after, word-Good, size, Ln, Cr, Spent, all_go, returned, leads, looks_into, place_lent, place_seen, filled_within}
+use Rattle.item_ring.proofs.WalkNames.{◌≡◌, refl, ap, ◌+◌, ◌*◌, List, [], ◌∷◌, get_or, w64, Val, vptr, emp, fact_i, flft, fact, ◌⊑◌, tables, toks, ‵, raw, ◌⊛◌, at_ret, ◌$◌, ◌∵◌, !, qed, by, move, keep, drop, use1, split, fsplit, fsplit3, fjoin, feq_i, rewrite, whole, sub, stop, fld, of_opd, addr, through, first, blocks, exec, returns, enter, alloc_all, pass_all, free_all, look_at, get, get_in, is, sets, sets_last, env, heard, hide, proved, shr_vals, shr_Tells, uint_vals, uint_Tells, named, owns, ShrRef, usize, walk_of, None, El, R, Place, IsFilled, inst_fn, ptr_val, ◌+ₚ◌, after, word-Good, size, Ln, Cr, Spent, all_go, returned, leads, looks_into, place_lent, place_seen, filled_within}
 use Rattle.core.proofs.mem.Param.{args}
 use Rattle.item_ring.specs.contracts.cells.Cells.get as contract
 use Rattle.item_ring.specs.contracts.cells.Cells.get.Key.{name}

@@ -1,5 +1,5 @@
 -- `link` adds the bytes of `index` values to the first place's address. The machine lets it, since the place is one of the block's. Assumes `Logic`.
-use Rattle.item_ring.proofs.Steps.{◌≡◌, refl, ap, sym, ◌∙◌, ◌+◌, ◌*◌, ◌<◌, ◌^◌, arith, [], ◌∷◌, length, w64, vint, emp, fact_i, flft, fact, ◌⊑◌, tables, toks, ‵, raw, ◌⊛◌, at_ret, ◌$◌, ◌∵◌, !, qed, by, move, keep, drop, use0, split, fsplit, fsplit3, whole, sub, agg, stop, fld, of_opd, bin, size_word, and_then, no_more, first, blocks, exec, returns, enter, alloc_all, pass_all, free_all, look_at, get, get_in, is, sets, sets_last, env, heard, proved, shr_vals, shr_Tells, uint_vals, uint_Tells, named, owns, ShrRef, usize, walk_of, El, uncapped, times_below, inst_fn, block_ptr, ptr_val, ◌+ₚ◌, after, word, word-Good, size, Ln, Cr, Spent, all_go, returned, leads, looks_into, link_made}
+use Rattle.item_ring.proofs.WalkNames.{◌≡◌, refl, ap, sym, ◌∙◌, ◌+◌, ◌*◌, ◌<◌, ◌^◌, arith, [], ◌∷◌, length, w64, vint, emp, fact_i, flft, fact, ◌⊑◌, tables, toks, ‵, raw, ◌⊛◌, at_ret, ◌$◌, ◌∵◌, !, qed, by, move, keep, drop, use0, split, fsplit, fsplit3, whole, sub, agg, stop, fld, of_opd, bin, size_word, and_then, no_more, first, blocks, exec, returns, enter, alloc_all, pass_all, free_all, look_at, get, get_in, is, sets, sets_last, env, heard, proved, shr_vals, shr_Tells, uint_vals, uint_Tells, named, owns, ShrRef, usize, walk_of, El, uncapped, times_below, inst_fn, block_ptr, ptr_val, ◌+ₚ◌, after, word, word-Good, size, Ln, Cr, Spent, all_go, returned, leads, looks_into, link_made}
 use Rattle.core.proofs.mem.Param.{args}
 use Rattle.item_ring.specs.contracts.cells.Cells.link as contract
 use Rattle.item_ring.specs.contracts.cells.Cells.link.Key.{name}

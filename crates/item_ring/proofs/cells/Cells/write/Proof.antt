@@ -1,5 +1,5 @@
 -- `write` opens the `&mut` to the owner, takes the room of the one place out of it, whatever it held, puts the item there and closes the owner over it again. Assumes `Logic`.
-use Rattle.item_ring.proofs.Steps.{◌≡◌, refl, ap, sym, subst, ◌*◌, ◌<◌, List, [], ◌∷◌, length, w64, Val, vunit, emp, ent, sep, fact_i, flft, fact, ◌⊑◌, tables, toks, ‵, raw, ◌⊛◌, at_ret, ◌$◌, ◌∵◌, !, qed, by, move, keep, drop, use0, use3, split, join, fsplit3, fjoin, feq_i, frame, suffices, whole, sub, stop, fld, init, of_opd, unit_lit, assigns_last, through, first, blocks, exec, returns, enter, alloc_all, pass_all, free_all, look_at, get, get_in, is, sets, env, heard, opens, closes, proved_at, leaves, mut_vals, mut_Tells, uint_vals, uint_Tells, named, yes, no, owns, flat, types_at, Vals, Lasts, MutRef, usize, plain, on_entry, WpFn, Stays, stay_ref, Goes-ref, walk_of, El, R, inst_fn, ptr_val, ◌+ₚ◌, after, word-Good, size, Ln, Cr, spent, all_go, nothing_left, has_of, leads, one_out, one_in, filled}
+use Rattle.item_ring.proofs.WalkNames.{◌≡◌, refl, ap, sym, subst, ◌*◌, ◌<◌, List, [], ◌∷◌, length, w64, Val, vunit, emp, ent, sep, fact_i, flft, fact, ◌⊑◌, tables, toks, ‵, raw, ◌⊛◌, at_ret, ◌$◌, ◌∵◌, !, qed, by, move, keep, drop, use0, use3, split, join, fsplit3, fjoin, feq_i, frame, suffices, whole, sub, stop, fld, init, of_opd, unit_lit, assigns_last, through, first, blocks, exec, returns, enter, alloc_all, pass_all, free_all, look_at, get, get_in, is, sets, env, heard, opens, closes, proved_at, leaves, mut_vals, mut_Tells, uint_vals, uint_Tells, named, yes, no, owns, flat, types_at, Vals, Lasts, MutRef, usize, plain, on_entry, WpFn, Stays, stay_ref, Goes-ref, walk_of, El, R, inst_fn, ptr_val, ◌+ₚ◌, after, word-Good, size, Ln, Cr, spent, all_go, nothing_left, has_of, leads, one_out, one_in, filled}
 use Rattle.core.proofs.mem.Param.{args, one, lawful}
 use Rattle.item_ring.specs.contracts.cells.Cells.write as contract
 use Rattle.item_ring.specs.contracts.cells.Cells.write.Key.{name}

@@ -1,3 +1,4 @@
+-- The node that its link leads to has the cell.
 use Rattle.std.proofs.Common.{sym}
 use Rattle.item_ring.proofs.Edits.{cell_is}
 use Rattle.item_ring.proofs.nodes.Nodes.get.Goals as goal

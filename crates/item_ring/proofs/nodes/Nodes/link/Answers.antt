@@ -2,7 +2,7 @@
 use Rattle.std.proofs.Common.{sym, subst, ◌∙◌, ◌<◌}
 use Rattle.item_ring.specs.AreNodes.{slots_of}
 use Rattle.item_ring.specs.Nodes.{LeadsTo}
-use Rattle.item_ring.proofs.Rows.{place_is, below_room}
+use Rattle.item_ring.proofs.Writes.{place_is, below_room}
 use Rattle.item_ring.proofs.nodes.Nodes.link.Goals as goal
 
 pub returns : goal.returns

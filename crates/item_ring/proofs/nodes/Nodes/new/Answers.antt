@@ -1,4 +1,5 @@
-use Rattle.item_ring.proofs.Rows.{none_keeps}
+-- There are no nodes.
+use Rattle.item_ring.proofs.Writes.{none_keeps}
 use Rattle.item_ring.proofs.nodes.Nodes.new.Goals as goal
 
 pub invariant_of-result : goal.invariant_of-result

@@ -2,7 +2,7 @@
 use Rattle.std.proofs.Common.{sym, subst, ◌∙◌, ◌≡◌, Some}
 use Rattle.item_ring.specs.AreNodes.{slots_of}
 use Rattle.item_ring.specs.Nodes.{LeadsTo, IsTied, node_at}
-use Rattle.item_ring.proofs.Rows.{place_is, is_filled, reads, below_room}
+use Rattle.item_ring.proofs.Writes.{place_is, is_filled, reads, below_room}
 use Rattle.item_ring.proofs.nodes.Nodes.read.Goals as goal
 
 pub get-requires-clause-leads : goal.get-requires-clause-leads
@@ -22,7 +22,7 @@ returns-clause-node c =
     let v = slots_of c.self.inside in
     let leads = subst (λ x. LeadsTo x c.args.link c.args.slot) (sym c.self.view_is) c.requires in
     let both = reads v c.self.invariant c.args.slot (below_room v c.self.invariant c.args.slot leads.within) c.index.result.now c.index.ensures c.get.result leads.within c.get.ensures in
-    subst (λ x. node_at x.rows c.args.slot ≡ Some c.get.result) c.self.view_is both.0
+    subst (λ x. node_at x.blocks c.args.slot ≡ Some c.get.result) c.self.view_is both.0
 
 pub returns-clause-tied : goal.returns-clause-tied
 returns-clause-tied c =

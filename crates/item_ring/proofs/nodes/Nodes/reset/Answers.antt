@@ -1,3 +1,4 @@
+-- One write, with links to slots that are in use.
 use Rattle.item_ring.proofs.Edits.{writes_edits}
 use Rattle.item_ring.proofs.nodes.Nodes.reset.Goals as goal
 

@@ -1,3 +1,4 @@
+-- One write, which keeps the links.
 use Rattle.std.proofs.Common.{sym, subst}
 use Rattle.item_ring.specs.Nodes.{Edits}
 use Rattle.item_ring.specs.declared.block.Cell.{Cell}

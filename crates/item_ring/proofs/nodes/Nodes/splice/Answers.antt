@@ -1,3 +1,4 @@
+-- Three writes through links tie one node in between two others.
 use Rattle.std.proofs.Common.{refl}
 use Rattle.item_ring.proofs.Edits.{spliced}
 use Rattle.item_ring.proofs.nodes.Nodes.splice.Goals as goal

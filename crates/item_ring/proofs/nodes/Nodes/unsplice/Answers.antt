@@ -1,3 +1,4 @@
+-- Three writes through links tie the neighbours of a node to each other.
 use Rattle.std.proofs.Common.{refl}
 use Rattle.item_ring.proofs.Edits.{unspliced}
 use Rattle.item_ring.proofs.nodes.Nodes.unsplice.Goals as goal

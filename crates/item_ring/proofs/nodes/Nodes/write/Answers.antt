@@ -2,7 +2,7 @@
 use Rattle.std.proofs.Common.{sym, subst, set, ◌∙◌, ◌/◌}
 use Rattle.item_ring.specs.AreNodes.{slots_of}
 use Rattle.item_ring.specs.Nodes.{LeadsTo, IsTied, Writes}
-use Rattle.item_ring.proofs.Rows.{place_is, row_long, write_writes, write_keeps, below_room}
+use Rattle.item_ring.proofs.Writes.{place_is, row_long, write_writes, write_keeps, below_room}
 use Rattle.item_ring.proofs.nodes.Nodes.write.Goals as goal
 
 pub set-requires-clause-leads : goal.set-requires-clause-leads
@@ -29,4 +29,4 @@ returns c =
     let v = slots_of c.self.inside in
     let leads = subst (λ x. LeadsTo x c.args.link c.args.slot) (sym c.self.view_is) c.requires.leads in
     let writes = write_writes v c.self.invariant c.args.slot leads.within c.index_mut.result.now c.set.new.self c.args.node c.index_mut.ensures.value c.set.ensures.at c.set.ensures.slots in
-    subst (λ x. Writes x (record v { rows = set v.rows (c.args.slot / 256) c.set.new.self }) c.args.slot c.args.node) c.self.view_is writes
+    subst (λ x. Writes x (record v { blocks = set v.blocks (c.args.slot / 256) c.set.new.self }) c.args.slot c.args.node) c.self.view_is writes

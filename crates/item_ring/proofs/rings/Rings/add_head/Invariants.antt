@@ -1,3 +1,4 @@
+-- What is seen after the call.
 use Rattle.item_ring.specs.Turns.{headed}
 use Rattle.item_ring.proofs.rings.Rings.add_head.Given as goal
 

@@ -1,6 +1,7 @@
 -- The place comes from the spare ones, or from new room.
 use Rattle.std.proofs.Common.{◌<◌, sym, subst}
 use Rattle.std.specs.FinMap as map
+use Rattle.item_ring.specs.declared.rings.TheConstants.{MOST_NODES}
 use Rattle.item_ring.proofs.Makes.{IsGrown, grown_holds, member_holds, fits_other, few_more, free_low}
 use Rattle.item_ring.proofs.Stock.{grown_free}
 use Rattle.item_ring.proofs.Plans.{apart_now}
@@ -26,7 +27,7 @@ invariant_of-self-2 c =
     let grown : IsGrown a.nodes g = record { cells = e.cells; len = e.len; more = e.more; small = e.small } in
     let fits = fits_other c.in_ok-left.left a.spare_members a.spare_heads c.len.result a.nodes.len g.len a.free a.nodes.room g.room left c.in_ok-left.ensures.room c.len.ensures e.len
     (free_low (map.len a.seen.view.rings) (map.len a.seen.view.tags) a.free a.nodes.len st.total) st.reserved e.more in
-    let low = subst (λ x. map.len x.tags < 16777215) (sym c.self.view_is) c.requires in
+    let low = subst (λ x. map.len x.tags < MOST_NODES) (sym c.self.view_is) c.requires in
     let few = few_more (map.len a.seen.view.tags) a.spare_members c.in_ok-left.left left low st.few_members in
     member_holds a c.self.invariant g grown c.claim-slot.new.nodes c.claim-slot.new.first_free c.claim-slot.new.free c.claim-slot.result c.in_ok-left.left c.args.tag c.claim-slot.ensures c.show.new.seen c.show.ensures fits few
 
@@ -45,6 +46,6 @@ returns-clause-apart c =
     let grown : IsGrown a.nodes g = record { cells = e.cells; len = e.len; more = e.more; small = e.small } in
     let fits = fits_other c.in_ok-left.left a.spare_members a.spare_heads c.len.result a.nodes.len g.len a.free a.nodes.room g.room left c.in_ok-left.ensures.room c.len.ensures e.len
     (free_low (map.len a.seen.view.rings) (map.len a.seen.view.tags) a.free a.nodes.len st.total) st.reserved e.more in
-    let low = subst (λ x. map.len x.tags < 16777215) (sym c.self.view_is) c.requires in
+    let low = subst (λ x. map.len x.tags < MOST_NODES) (sym c.self.view_is) c.requires in
     let few = few_more (map.len a.seen.view.tags) a.spare_members c.in_ok-left.left left low st.few_members in
     apart_now _ (member_holds a c.self.invariant g grown c.claim-slot.new.nodes c.claim-slot.new.first_free c.claim-slot.new.free c.claim-slot.result c.in_ok-left.left c.args.tag c.claim-slot.ensures c.show.new.seen c.show.ensures fits few)

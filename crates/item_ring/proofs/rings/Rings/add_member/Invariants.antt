@@ -1,3 +1,4 @@
+-- What is seen after the call.
 use Rattle.item_ring.specs.Turns.{membered}
 use Rattle.item_ring.proofs.rings.Rings.add_member.Given as goal
 

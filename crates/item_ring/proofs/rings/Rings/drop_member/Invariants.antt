@@ -1,3 +1,4 @@
+-- What is seen after the call.
 use Rattle.item_ring.specs.Turns.{member_gone}
 use Rattle.item_ring.proofs.rings.Rings.drop_member.Given as goal
 

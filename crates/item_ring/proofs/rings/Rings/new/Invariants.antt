@@ -1,3 +1,4 @@
+-- At first nothing is seen.
 use Rattle.item_ring.specs.View.{nothing_seen}
 use Rattle.item_ring.proofs.rings.Rings.new.Given as goal
 

@@ -1,3 +1,4 @@
+-- What is seen after the call.
 use Rattle.item_ring.specs.Turns.{tied}
 use Rattle.item_ring.proofs.rings.Rings.tie.Given as goal
 

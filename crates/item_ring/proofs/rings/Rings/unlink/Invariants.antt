@@ -1,3 +1,4 @@
+-- What is seen after the call.
 use Rattle.item_ring.specs.Turns.{unlinked}
 use Rattle.item_ring.proofs.rings.Rings.unlink.Given as goal
 

@@ -1,3 +1,4 @@
+-- Any two values.
 use Rattle.std.proofs.Common.{replicate}
 use Rattle.leda_base.proofs.seen.tests.it_takes_no_memory.Given as goal
 

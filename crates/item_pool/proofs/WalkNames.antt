@@ -54,4 +54,4 @@ pub use Rattle.item_pool.specs.Filled.{IsFilled}
 pub use Rattle.item_pool.proofs.Opened.{near, opened, shut, Kept, comes_back, looks_into}
 pub use Rattle.item_pool.proofs.Ends.{spent, Spent, all_go, nothing_left, hands_out, returned, then_on}
 pub use Rattle.item_pool.proofs.Rooms.{De, Three, Handed, three_val, handed, handed_out, refused, refused_val, handed_val, handed_in, OfOne, Asking, asks, answered, Giving, gives, gave}
-pub use Rattle.item_pool.proofs.Rows.{Pl, St, size, Place, in_row, value_in, value_out, place_seen}
+pub use Rattle.item_pool.proofs.OnePlace.{Pl, St, size, Place, in_row, value_in, value_out, place_seen}
