@@ -57,7 +57,8 @@ impl Source for SureSource {
     }
 }
 
-/// A sink that takes every piece whole, keeps nothing of it and doesn't tell what it holds. No write to it fails.
+/// A sink that takes every piece whole, keeps nothing of it and doesn't tell what it holds. No
+/// write to it fails.
 #[derive(Clone, Copy, Debug, Default, PartialEq, Eq)]
 pub struct SureSink;
 
