@@ -1,3 +1,4 @@
+//! What no clause says: the replies of scripts, row by row, and what a failing source or sink leaves.
 ghost use Rattle.std.specs.Prelude.{◌<◌, None};
 
 use crate::{Status, run};

@@ -1,4 +1,4 @@
-// Calls that fail by a list.
+//! Calls that fail by a list.
 ghost use Rattle.std.specs.Prelude.{◌≡◌, ◌≤◌, ◌↔◌, IsTrue, Contains};
 ghost use Rattle.leda_edge.specs.Causes.{one_more};
 

@@ -1,4 +1,4 @@
-// The real files.
+//! The real files.
 ghost use Rattle.std.specs.Prelude.{◌≡◌, ◌≤◌, None, IfOk, vec_len};
 
 use crate::store::{LoadFault, SaveFault, Store};

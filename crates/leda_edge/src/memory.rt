@@ -1,5 +1,5 @@
-// A source and a sink in memory, for tests: how they give, take and fail is laid down when they are
-// made.
+//! A source and a sink in memory, for tests: how they give, take and fail is laid down when they are
+//! made.
 ghost use Rattle.std.specs.Prelude.{◌≡◌, ◌⊎◌, ◌↔◌, ◌-◌, ◌<◌, min, [], ◌++◌, length, drop, Some, IsErr, IfOk, OnOk, OnErr, Contains};
 ghost use Rattle.std.specs.Io.{ReadsAtMost, WritesAtMost};
 ghost use Rattle.std.specs.Io.KnownBytes.{ReadConsumes, WriteAppends};

@@ -1,4 +1,4 @@
-// Writing a whole piece.
+//! Writing a whole piece.
 ghost use Rattle.std.specs.Prelude.{◌≡◌, [], OnOk, OnErr};
 ghost use Rattle.std.specs.Io.KnownBytes.{Appends};
 ghost use Rattle.leda_edge.specs.Causes.{HasCause};

@@ -1,4 +1,4 @@
-// What a script is read from.
+//! What a script is read from.
 ghost use Rattle.std.specs.Prelude.{ℕ, ◌<◌, List, length, Option};
 ghost use Rattle.std.specs.Io.{ReadsAtMost};
 ghost use Rattle.std.specs.Io.KnownBytes.{ReadConsumes};

@@ -1,4 +1,4 @@
-// What files are loaded from and saved to.
+//! What files are loaded from and saved to.
 ghost use Rattle.std.specs.Prelude.{◌≡◌, ℕ, ◌≤◌, Option, IfOk, OnOk, IsErrOf, vec_len};
 ghost use Rattle.leda_edge.specs.Causes.{Rose};
 ghost use Rattle.leda_edge.specs.Files.{FileMap, HasFile, LacksFile, HasLonger, OpensFile, Saves};

@@ -1,3 +1,4 @@
+//! Tests of every form of line, by the table of commands.
 use super::*;
 use crate::argument::Arg;
 use crate::word::{EditWord, QueryWord, Word};

@@ -1,3 +1,4 @@
+//! Tests of every form of argument, by a table of their own.
 use super::*;
 use crate::form::{Kinds, Sight};
 use crate::table::{Memory, rows};
