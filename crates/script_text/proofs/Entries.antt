@@ -2,6 +2,7 @@
 use Rattle.std.proofs.Common.{◌≡◌, ◌≤◌, ℕ, ◌||◌, Bool, true, false, nat_le, List, [], ◌∷◌, length, find, Option, Some, None, IfSome, cond, refl, rules, arith}
 use Rattle.std.specs.Option.{option_or, option_map_or}
 use Rattle.std.proofs.lemmas.Bool.Decides.{nat_tests}
+use Rattle.script_text.specs.declared.table.TheConstants.{FORM_LIMIT}
 use Rattle.script_text.specs.Borrowed.{are_short, IsEntry}
 use Rattle.script_text.specs.declared.word.Word.{Word}
 use Rattle.script_text.specs.Table.{Entry, table, entry_of, entry_with, forms_of, keeps_any, is_taken, may_lack, may_lack_memory}
@@ -34,20 +35,20 @@ pub entry_of-each : (P : Entry → Type 0) (rows : List Entry) (spelling : List 
 entry_of-each P rows spelling next each = either_has P _ _ (find-each P _ rows each)
     (find-each P _ rows each)
 
--- at most eight arguments
+-- no more arguments than there is room for
 abbrev IsShort : Entry → Type 0
-IsShort row = length row.forms ≤ 8
+IsShort row = length row.forms ≤ FORM_LIMIT
 
 each-short : (rows : List Entry) → are_short rows ≡ true → Each IsShort rows
 each-short [] e = tt
 each-short (row ∷ rows) e =
-    let few : nat_le (length row.forms) 8 ≡ true = first_true _ _ e in
-    let short : length row.forms ≤ 8 = grind (arith, nat_tests) in
+    let few : nat_le (length row.forms) FORM_LIMIT ≡ true = first_true _ _ e in
+    let short : length row.forms ≤ FORM_LIMIT = grind (arith, nat_tests) in
     (short, each-short rows (second_true _ _ e))
 
 pub entry_of-short : (rows : List Entry) (spelling : List ℕ) (next : Option Token)
     → are_short rows ≡ true
-    → IfSome (entry_of rows spelling next) (λ row. length row.forms ≤ 8)
+    → IfSome (entry_of rows spelling next) (λ row. length row.forms ≤ FORM_LIMIT)
 entry_of-short rows spelling next e = entry_of-each IsShort rows spelling next (each-short rows e)
 
 -- each row of the table is that of its word

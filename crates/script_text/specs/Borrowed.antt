@@ -9,6 +9,7 @@ use Rattle.script_text.specs.declared.argument.ArgRef.TheVariants as refs
 use Rattle.script_text.specs.declared.argument.Misfit.{Misfit}
 use Rattle.script_text.specs.declared.form.Form.{Form}
 use Rattle.script_text.specs.declared.table.Memory.{Memory}
+use Rattle.script_text.specs.declared.table.TheConstants.{FORM_LIMIT}
 use Rattle.script_text.specs.declared.token.Token.{Token as TokenRef}
 use Rattle.script_text.specs.declared.word.Word.{Word}
 use Rattle.script_text.specs.Table.{Entry, forms_of}
@@ -49,9 +50,9 @@ has_bytes (args.Label label) = true
 has_bytes (args.File file) = true
 has_bytes arg = false
 
--- no row has more than eight arguments, which is as many as a command has room for
+-- no row asks for more arguments than there is room for
 abbrev pub are_short : List Entry → Bool
-are_short rows = list_all (λ entry. nat_le (length entry.forms) 8) rows
+are_short rows = list_all (λ entry. nat_le (length entry.forms) FORM_LIMIT) rows
 
 -- the forms of the row are those that its word takes
 abbrev pub IsEntry : Entry → Type 0

@@ -6,7 +6,7 @@ use Rattle.std.specs.Fmt.{decimal}
 use Rattle.std.specs.Str.Parse.{digits_value}
 use Rattle.graph_defs.specs.declared.query.Kept.{Kept}
 use Rattle.graph_defs.specs.declared.query.Mode.{Mode}
-use Rattle.script_text.specs.declared.text.TheConstants.{MODES, SORTS}
+use Rattle.script_text.specs.declared.text.TheConstants.{NAME_LIMIT, LABEL_LIMIT, FILE_LIMIT, MODES, SORTS}
 
 -- digits that write a number from 1 to 4,294,967,295 without a leading 0
 abbrev pub is_item_number : List ℕ → Bool
@@ -54,13 +54,13 @@ is_name_byte b = is_ascii_alphanumeric b || b == 95
 -- item
 abbrev pub is_name : List ℕ → Bool
 is_name bytes =
-    (nat_le 1 (length bytes) && nat_le (length bytes) 32)
+    (nat_le 1 (length bytes) && nat_le (length bytes) NAME_LIMIT)
     && (list_all is_name_byte bytes
     && (not (is_ascii_digit (slice_index bytes 0)) && not (is_item bytes)))
 
 -- a label: at most 60,000 bytes, none of which ends a line
 abbrev pub is_label : List ℕ → Bool
-is_label bytes = nat_le (length bytes) 60000 && list_all (λ b. not (b == 10)) bytes
+is_label bytes = nat_le (length bytes) LABEL_LIMIT && list_all (λ b. not (b == 10)) bytes
 
 -- what stands between the first two and the last two bytes
 abbrev pub between : List ℕ → List ℕ
@@ -76,7 +76,7 @@ label_of bytes =
 -- the name of a file: 1 to 255 bytes from `!` to `~`
 abbrev pub is_file : List ℕ → Bool
 is_file bytes =
-    (nat_le 1 (length bytes) && nat_le (length bytes) 255) && list_all is_ascii_graphic bytes
+    (nat_le 1 (length bytes) && nat_le (length bytes) FILE_LIMIT) && list_all is_ascii_graphic bytes
 
 -- an integer from -2^63 to 2^63 - 1
 abbrev pub is_i64 : ℤ → Bool

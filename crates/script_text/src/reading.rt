@@ -1,15 +1,14 @@
 //! A line read by a table, over the bytes of the line alone, and then with bytes of its own.
-ghost use Rattle.std.specs.Prelude.{◌≡◌, ◌≤◌, ◌∷◌, List, true, nat_le, length, map, IsTrue, Ok, Err, IfOk, OnErr, MatchResult};
-ghost use Rattle.std.specs.List.{list_all, list_any};
+ghost use Rattle.std.specs.Prelude.{◌≡◌, ◌≤◌, true, length, map, IsTrue, Ok, Err, IfOk, OnErr, MatchResult};
+ghost use Rattle.std.specs.List.{list_any};
 ghost use Rattle.script_text.specs.Borrowed.{arg_seen, entry_seen, read_seen, has_bytes, are_short, IsEntry, ReadsNext};
 ghost use Rattle.script_text.specs.Line.{arguments, read_line as the_reading};
-ghost use Rattle.script_text.specs.Table.{keeps_any, IsWhole};
 
 use crate::argument::{Arg, ArgRef, Misfit};
 use crate::command::Command;
 use crate::form::{Form, left_out, read_arg};
 use crate::line::{LINE_LIMIT, LineRefusal};
-use crate::table::{Entry, entry_of};
+use crate::table::{Entry, FORM_LIMIT, entry_of};
 use crate::token::Tokens;
 use leda_base::NoMemory;
 use smallvec::SmallVec;
@@ -17,7 +16,7 @@ use std::alloc::Global;
 use std::marker::Model;
 
 /// Arguments that stand in a line.
-type ArgRefs<'a> = SmallVec<ArgRef<'a>, 8, Global>;
+type ArgRefs<'a> = SmallVec<ArgRef<'a>, FORM_LIMIT, Global>;
 
 /// A row of the table, and arguments of its forms that stand in a line.
 #[derive(Drop)]
@@ -28,6 +27,7 @@ pub(crate) struct Reading<'a> {
 
 impl<'a> Model for Reading<'a> {
     ghost use Rattle.std.specs.Prelude.{◌≤◌, length, map};
+    ghost use Rattle.script_text.specs.declared.table.TheConstants.{FORM_LIMIT};
     ghost use Rattle.script_text.specs.Borrowed.{arg_seen, entry_seen};
     ghost use Rattle.script_text.specs.Line.{Reading as TheReading};
 
@@ -35,7 +35,7 @@ impl<'a> Model for Reading<'a> {
 
     ghost view = { λ r. record { row = entry_seen r.row; args = map arg_seen r.args.items } };
 
-    ghost invariant = { λ r. length r.args.items ≤ 8 };
+    ghost invariant = { λ r. length r.args.items ≤ FORM_LIMIT };
 }
 
 impl Reading<'_> {
@@ -56,7 +56,7 @@ impl Reading<'_> {
 }
 
 fn own_args(alloc: Global, args: &[ArgRef<'_>]) -> Result<SmallVec<Arg, 8, Global>, NoMemory>
-    requires { length args.now ≤ 8 }
+    requires { length args.now ≤ FORM_LIMIT }
     ensures ok { IfOk result (λ owned. owned.items ≡ map arg_seen args.now) }
     ensures err { OnErr result (list_any has_bytes (map arg_seen args.now) ≡ true) }
 {
@@ -100,8 +100,8 @@ fn read_args<'a>(
     forms: &[Form],
     tokens: &mut Tokens<'a>,
 ) -> Result<ArgRefs<'a>, LineRefusal>
-    requires { length forms.now ≤ 8 }
-    ensures few { IfOk result (λ args. length args.items ≤ 8) }
+    requires { length forms.now ≤ FORM_LIMIT }
+    ensures few { IfOk result (λ args. length args.items ≤ FORM_LIMIT) }
     ensures read { let read = arguments forms.now tokens.old.column tokens.old.tokens in
         MatchResult result
         (λ args. read ≡ Ok (map arg_seen args.items)) (λ fault. read ≡ Err fault) }

@@ -23,6 +23,9 @@ pub(crate) enum Memory {
 /// A tuple, since a clause can't cite a constant of a struct with references.
 pub(crate) type Entry = (&'static str, Word, &'static [Form], Memory);
 
+/// How many arguments a row may ask for.
+pub(crate) const FORM_LIMIT: usize = 4;
+
 const NODE: Form = Form::Node(Sight::Visible);
 
 /// Writes the rows of a table, one a line: the spelling, the word, what is asked of each argument,

@@ -1,4 +1,5 @@
 use Rattle.std.proofs.Common.{◌≡◌, ◌≤◌, length, drop, map}
+use Rattle.script_text.specs.declared.table.TheConstants.{FORM_LIMIT}
 use Rattle.script_text.specs.Borrowed.{arg_seen}
 use Rattle.script_text.specs.Line.{arguments}
 use Rattle.script_text.proofs.Arguments.{with_front}
@@ -10,4 +11,4 @@ invariant-loop-form l =
     (arguments (drop l.form-index l.forms) l.tokens.column l.tokens.tokens)
     ≡ arguments l.forms l.initial.tokens.column l.initial.tokens.tokens)
     × (length l.args.items ≤ l.form-index)
-    × (l.args.capacity ≡ 8)
+    × (l.args.capacity ≡ FORM_LIMIT)
