@@ -1,5 +1,5 @@
 //! Homes: a serial's last bits say where it may lie with its slot, and one serial can lie there.
-ghost use Rattle.std.specs.Prelude.{◌≡◌, ℕ, ◌+◌, ◌*◌, ◌%◌, ◌^◌, ◌<◌, length, nat_eq, if◌then◌else◌, ◌↔◌, Some, None, OnOk, IsTrue, IsFalse, IsSome};
+ghost use Rattle.std.specs.Prelude.{◌≡◌, ℕ, ◌+◌, ◌*◌, ◌%◌, ◌^◌, ◌<◌, ◌≤◌, length, nat_eq, if◌then◌else◌, ◌↔◌, Some, None, OnOk, IsTrue, IsFalse, IsSome};
 ghost use Rattle.std.specs.Int.{IsPowerOfTwo};
 ghost use Rattle.item_pool.specs.Homes.{at_home, settled, IsFree, AreFree, StayFree};
 ghost use Rattle.item_pool.specs.Lookups.{Sets};
@@ -89,20 +89,18 @@ impl Homes {
         home.serial == 0 || home_of(home.serial, len) != place
     }
 
-    /// Whether the `n` serials from `first` on have homes of their own, at which nobody is.
-    pub(crate) fn are_free(&self, first: u32, n: u32) -> bool
-        requires { first + n < 2 ^ 32 }
-        ensures { IsTrue result ↔ AreFree self.now first n }
+    /// Of how many serials from `first` on, `most` at most, there are homes at which nobody is.
+    pub(crate) fn free_from(&self, first: u32, most: u32) -> u32
+        requires { first + most < 2 ^ 32 }
+        ensures free { AreFree self.now first result }
+        ensures most { result ≤ most }
     {
-        if n as usize > self.places.len() {
-            return false;
-        }
-        for k in 0..n {
-            if !self.is_free(first + k) {
-                return false;
+        for k in 0..most {
+            if k as usize == self.places.len() || !self.is_free(first + k) {
+                return k;
             }
         }
-        true
+        most
     }
 
     /// Puts a serial into its home where that is free, and answers whether it was.

@@ -8,6 +8,10 @@ use crate::homes::Homes;
 use std::alloc::{AllocError, Global};
 use std::collections::HashMap;
 
+/// How many homes are looked at ahead of the serials that come in, so that not each insertion has
+/// to look.
+const AHEAD: u32 = 64;
+
 /// From live serials to slots. A serial lies in its home, or in a hash table where another was
 /// there first. The hash table has room for as many serials as are sure of a place, but for those
 /// whose homes are free.
@@ -92,7 +96,7 @@ impl Table {
     ///
     /// Where there is no memory for the room, which isn't so where `n` serials are sure already.
     pub(crate) fn reserve(&mut self, n: u32, cells: u32) -> Result<(), AllocError>
-        requires { self.old.next + n < 2 ^ 32 }
+        requires { self.old.next + n + AHEAD < 2 ^ 32 }
         ensures kept { (s : ℕ) → slot_of self.new s ≡ slot_of self.old s }
         ensures next { self.new.next ≡ self.old.next }
         ensures ok { OnOk result (n ≤ self.new.sure) }
@@ -103,10 +107,11 @@ impl Table {
         if n <= self.sure {
             return Ok(());
         }
-        if !self.homes.are_free(self.next, n) {
+        let free = self.homes.free_from(self.next, n.max(AHEAD));
+        if free < n {
             self.others.reserve(n as usize)?;
         }
-        self.sure = n;
+        self.sure = free.max(n);
         Ok(())
     }
 
