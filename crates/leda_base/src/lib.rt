@@ -7,6 +7,6 @@ mod number;
 mod row;
 
 pub use memory::NoMemory;
-pub use name::ItemName;
+pub use name::{ItemName, NAME_LIMIT};
 pub use number::{NumFault, put_i128, read_i64};
 pub use row::Row;

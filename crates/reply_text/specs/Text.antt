@@ -1,60 +1,50 @@
--- The bytes that a reply is written as.
-use Rattle.std.specs.Prelude.{◌≡◌, ℕ, ◌<◌, List, ◌++◌, length, slice_index, All, codes, decimal, ⊤}
+-- The bytes that a reply is written as: a reply is a list of lines, and a line a mark and words.
+use Rattle.std.specs.Prelude.{ℕ, ◌<◌, List, [], ◌∷◌, ◌++◌, length, All, codes, ⊤}
 use Rattle.std.specs.List.{flat_map}
-use Rattle.leda_base.specs.declared.ItemName.{ItemName}
-use Rattle.leda_base.specs.declared.ItemName.TheVariants.{Node, Edge}
 use Rattle.graph_defs.specs.declared.answer.Reach.{Reach as ReachAnswer}
 use Rattle.graph_defs.specs.declared.answer.Reach.TheVariants.{Walk, Closed}
+use Rattle.reply_text.specs.declared.refusal.Refusal.{Refusal}
 use Rattle.reply_text.specs.declared.reply.Answer.{Answer}
 use Rattle.reply_text.specs.declared.reply.Answer.TheVariants.{Reach}
-use Rattle.reply_text.specs.declared.reply.Named.{Named}
 use Rattle.reply_text.specs.declared.reply.Reply.{Reply}
 use Rattle.reply_text.specs.declared.reply.Reply.TheVariants.{Line, Query, Refused}
 use Rattle.reply_text.specs.declared.reply.ReplyLine.{ReplyLine}
-use Rattle.reply_text.specs.declared.reply.ReplyLine.TheVariants.{Name}
-use Rattle.reply_text.specs.declared.reply.Refusal.{Refusal}
-use Rattle.reply_text.specs.declared.reply.Refusal.TheVariants.{LongLine, Syntax, Unknown, FullNodes, FullEdges, Memory}
+use Rattle.reply_text.specs.declared.reply.ReplyLine.TheVariants as lines
+use Rattle.reply_text.specs.Words.{line_words, reach_words}
+use Rattle.reply_text.specs.Refusals.{refusal_words, IsRefusalNamed}
 
--- `n7`, `e3`
-abbrev pub name_text : ItemName → List ℕ
-name_text (Node n) = codes "n" ++ decimal n
-name_text (Edge n) = codes "e" ++ decimal n
+-- a line: its mark, which is `=` at a success and `!` at a refusal, and its words
+pub record TextLine : Type 0 where
+  pub mark : List ℕ
+  pub words : List (List ℕ)
 
--- what stands behind `= `
-abbrev pub line_text : ReplyLine → List ℕ
-line_text (Name x) = name_text x
+abbrev pub success : List (List ℕ) → TextLine
+success words = record { mark = codes "="; words = words }
 
--- the names of items: for each place the front, and then the number that stands there
-abbrev pub names_text : List ℕ → List ℕ → List ℕ → List ℕ
-names_text front numbers places = flat_map (λ place. front ++ decimal (slice_index numbers place)) places
+abbrev pub refusal_line : Refusal → TextLine
+refusal_line refusal = record { mark = codes "!"; words = refusal_words refusal }
 
--- a walk by its edges, or a closed set by its nodes
-abbrev pub reach_text : List ℕ → List ℕ → ReachAnswer → List ℕ
-reach_text nodes edges (Walk arcs) = codes "walk" ++ names_text (codes " e") edges arcs
-reach_text nodes edges (Closed set) = codes "closed" ++ names_text (codes " n") nodes set
+-- the lines of a query's answer
+abbrev pub answer_lines : List ℕ → List ℕ → Answer → List TextLine
+answer_lines nodes edges (Reach answer) = success (reach_words nodes edges answer) ∷ []
 
--- what stands behind `= ` of a query's reply
-abbrev pub answer_text : List ℕ → List ℕ → Answer → List ℕ
-answer_text nodes edges (Reach answer) = reach_text nodes edges answer
+-- the lines of a reply
+abbrev pub reply_lines : Reply → List TextLine
+reply_lines (Line line) = success (line_words line) ∷ []
+reply_lines (Query named) = answer_lines named.nodes named.edges named.answer
+reply_lines (Refused refusal) = refusal_line refusal ∷ []
 
--- what stands behind `! `
-abbrev pub refusal_text : Refusal → List ℕ
-refusal_text LongLine = codes "line"
-refusal_text (Syntax column) = codes "syntax " ++ decimal column
-refusal_text (Unknown x) = codes "unknown " ++ name_text x
-refusal_text FullNodes = codes "full nodes"
-refusal_text FullEdges = codes "full edges"
-refusal_text Memory = codes "memory"
+-- words behind others: a blank, and then the word, for each
+abbrev pub words_text : List (List ℕ) → List ℕ
+words_text words = flat_map (λ word. codes " " ++ word) words
 
--- a reply is one line: a success begins with `=`, a refusal with `!`
+-- a line as it is written: its mark and its words with one blank between each two, and an LF
+abbrev pub line_text : TextLine → List ℕ
+line_text line = line.mark ++ words_text line.words ++ codes "\n"
+
+-- a reply as it is written: its lines
 abbrev pub reply_text : Reply → List ℕ
-reply_text (Line line) = codes "= " ++ line_text line ++ codes "\n"
-reply_text (Query named) = codes "= " ++ answer_text named.nodes named.edges named.answer ++ codes "\n"
-reply_text (Refused refusal) = codes "! " ++ refusal_text refusal ++ codes "\n"
-
--- a list that grew, perhaps by nothing: its front is the list as it was
-abbrev pub StartsAs : List ℕ → List ℕ → Type 0
-StartsAs old new = (more : List ℕ) × (new ≡ old ++ more)
+reply_text reply = flat_map line_text (reply_lines reply)
 
 -- each number of an arc or a node in the answer has a name
 abbrev pub IsReachNamed : List ℕ → List ℕ → ReachAnswer → Type 0
@@ -64,14 +54,25 @@ IsReachNamed nodes edges (Closed set) = All (λ node. node < length nodes) set
 abbrev pub IsAnswerNamed : List ℕ → List ℕ → Answer → Type 0
 IsAnswerNamed nodes edges (Reach answer) = IsReachNamed nodes edges answer
 
--- what a reply numbers has a name
+-- what a reply numbers has a name, and an object's name in it is short enough
 abbrev pub IsNamed : Reply → Type 0
 IsNamed (Line line) = ⊤
 IsNamed (Query named) = IsAnswerNamed named.nodes named.edges named.answer
-IsNamed (Refused refusal) = ⊤
+IsNamed (Refused refusal) = IsRefusalNamed refusal
 
--- a reply whose length is bounded: a refusal, or the line of an edit
+-- a line whose length is bounded, as that of every edit is
+abbrev pub IsShortLine : ReplyLine → Type 0
+IsShortLine lines.Empty = ⊤
+IsShortLine lines.Nil = ⊤
+IsShortLine (lines.Num number) = ⊤
+IsShortLine (lines.Two nodes edges) = ⊤
+IsShortLine (lines.Name x) = ⊤
+IsShortLine (lines.Names xs) = ⊥
+IsShortLine (lines.Cells cells) = ⊥
+IsShortLine (lines.Label bytes) = ⊥
+
+-- a reply whose length is bounded: a refusal, or such a line
 abbrev pub IsShort : Reply → Type 0
-IsShort (Line line) = ⊤
+IsShort (Line line) = IsShortLine line
 IsShort (Query named) = ⊥
 IsShort (Refused refusal) = ⊤

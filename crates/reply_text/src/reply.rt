@@ -1,3 +1,6 @@
+//! What a command is answered with.
+
+use crate::refusal::Refusal;
 use graph_defs::Reach;
 use leda_base::{ItemName, Row};
 
@@ -10,6 +13,32 @@ pub enum Reply {
     Query(Named),
     /// The command was refused, and nothing has changed.
     Refused(Refusal),
+}
+
+/// What the line of a command that was done tells.
+#[derive(Drop)]
+pub enum ReplyLine {
+    /// Nothing: the command was done.
+    Empty,
+    /// There is no such item.
+    Nil,
+    Num(i64),
+    /// Two counts, of nodes and of edges.
+    Two(u32, u32),
+    Name(ItemName),
+    Names(Row<ItemName>),
+    /// The items of a container, in its order.
+    Cells(Row<CellShow>),
+    /// The bytes of a label.
+    Label(Row<u8>),
+}
+
+/// An item of a container, as it is shown: its number, and what it holds.
+#[derive(Drop)]
+pub struct CellShow {
+    pub number: u32,
+    /// The value; or the key and the information; or the priority and the information.
+    pub values: Row<i64>,
 }
 
 /// The answer to a query, and the names of what it numbers.
@@ -26,27 +55,4 @@ pub struct Named {
 #[derive(Drop)]
 pub enum Answer {
     Reach(Reach),
-}
-
-/// What the line of a command that was done tells.
-#[derive(Clone, Copy, Debug, PartialEq, Eq)]
-pub enum ReplyLine {
-    Name(ItemName),
-}
-
-/// Why a line was refused.
-#[derive(Clone, Copy, Debug, PartialEq, Eq)]
-pub enum Refusal {
-    /// The line has more than 65,536 bytes.
-    LongLine,
-    /// The line is no command: the column, from 1, of the first byte at fault.
-    Syntax(u32),
-    /// No item of this name was ever made.
-    Unknown(ItemName),
-    /// The graph has as many nodes as it may have.
-    FullNodes,
-    /// The graph has as many edges as it may have.
-    FullEdges,
-    /// Memory was wanted and not there.
-    Memory,
 }

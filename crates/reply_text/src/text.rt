@@ -1,20 +1,34 @@
-ghost use Rattle.std.specs.Prelude.{◌≡◌, ◌+◌, ◌<◌, ◌≤◌, ◌++◌, vec_len, vec_capacity, length, decimal, All, IsOk, OnOk, OnErr};
-ghost use Rattle.reply_text.specs.Text.{name_text, names_text, line_text, reach_text, answer_text, refusal_text, reply_text, StartsAs, IsReachNamed, IsAnswerNamed, IsNamed, IsShort};
+//! Replies as bytes.
+ghost use Rattle.std.specs.Prelude.{◌≡◌, ◌+◌, ◌≤◌, ◌∷◌, [], ◌++◌, vec_len, vec_capacity, IsOk, OnOk, OnErr};
+ghost use Rattle.std.specs.List.{flat_map};
+ghost use Rattle.reply_text.specs.Words.{line_words};
+ghost use Rattle.reply_text.specs.Refusals.{refusal_words, IsRefusalNamed};
+ghost use Rattle.reply_text.specs.Text.{success, refusal_line, answer_lines, words_text, line_text, reply_text, IsReachNamed, IsAnswerNamed, IsNamed, IsShortLine, IsShort};
+ghost use Rattle.reply_text.specs.Words.{reach_words};
+ghost use Rattle.reply_text.specs.Appending.{Appends, TakesRoom};
 
-use crate::{Answer, Refusal, Reply, ReplyLine};
+use crate::appending::{
+    append, append_cells, append_item, append_items, append_items_at, append_label, append_number,
+    append_subject, append_word,
+};
+use crate::refusal::Refusal;
+use crate::reply::{Answer, Reply, ReplyLine};
 use graph_defs::Reach;
-use itoa::Buffer;
-use leda_base::{ItemName, NoMemory};
+use leda_base::NoMemory;
 use std::alloc::AllocError;
+
+/// How many bytes hold the text of a refusal, and of the line of an edit.
+pub const SHORT_REPLY: usize = 64;
 
 /// Appends the text of a reply.
 ///
-/// 64 free bytes hold a refusal and the line of an edit, so these cannot be refused there.
+/// Where [`SHORT_REPLY`] bytes are free, a refusal and the line of an edit cannot be refused.
 pub fn put_reply(to: &mut Vec<u8>, reply: &Reply) -> Result<(), NoMemory>
     requires { IsNamed reply.now }
     ensures text { OnOk result (to.new.items ≡ to.old.items ++ reply_text reply.now) }
     ensures refused { OnErr result (to.new.items ≡ to.old.items) }
-    ensures room { IsShort reply.now → vec_len to.old + 64 ≤ vec_capacity to.old → IsOk result }
+    ensures room { IsShort reply.now → vec_len to.old + SHORT_REPLY ≤ vec_capacity to.old
+        → IsOk result }
     ensures capacity { vec_capacity to.old ≤ vec_capacity to.new }
 {
     let start = to.len();
@@ -29,43 +43,66 @@ pub fn put_reply(to: &mut Vec<u8>, reply: &Reply) -> Result<(), NoMemory>
 
 fn append_reply(to: &mut Vec<u8>, reply: &Reply) -> Result<(), AllocError>
     requires { IsNamed reply.now }
-    ensures text { OnOk result (to.new.items ≡ to.old.items ++ reply_text reply.now) }
-    ensures front { StartsAs to.old.items to.new.items }
-    ensures room { IsShort reply.now → vec_len to.old + 64 ≤ vec_capacity to.old → IsOk result }
-    ensures capacity { vec_capacity to.old ≤ vec_capacity to.new }
+    ensures text { Appends (reply_text reply.now) to.old to.new result }
+    ensures room { IsShort reply.now → TakesRoom SHORT_REPLY to.old to.new result }
 {
     match reply {
-        Reply::Line(line) => {
-            append(to, b"= ")?;
-            append_line(to, line)?;
-        }
-        Reply::Query(named) => {
-            append(to, b"= ")?;
-            append_answer(
-                to,
-                named.nodes.as_slice(),
-                named.edges.as_slice(),
-                &named.answer,
-            )?;
-        }
-        Reply::Refused(refusal) => {
-            append(to, b"! ")?;
-            append_refusal(to, refusal)?;
-        }
+        Reply::Line(line) => append_success(to, line),
+        Reply::Query(named) => append_answer(
+            to,
+            named.nodes.as_slice(),
+            named.edges.as_slice(),
+            &named.answer,
+        ),
+        Reply::Refused(refusal) => append_refusal(to, refusal),
     }
+}
+
+fn append_success(to: &mut Vec<u8>, line: &ReplyLine) -> Result<(), AllocError>
+    ensures text { Appends (line_text (success (line_words line.now))) to.old to.new result }
+    ensures room { IsShortLine line.now → TakesRoom SHORT_REPLY to.old to.new result }
+{
+    append(to, b"=")?;
+    append_line_words(to, line)?;
     append(to, b"\n")
 }
 
-fn append_line(to: &mut Vec<u8>, line: &ReplyLine) -> Result<(), AllocError>
-    ensures text { OnOk result (to.new.items ≡ to.old.items ++ line_text line.now) }
-    ensures front { StartsAs to.old.items to.new.items }
-    ensures short { vec_len to.new ≤ vec_len to.old + 32 }
-    ensures room { vec_len to.old + 32 ≤ vec_capacity to.old → IsOk result }
-    ensures capacity { vec_capacity to.old ≤ vec_capacity to.new }
+fn append_line_words(to: &mut Vec<u8>, line: &ReplyLine) -> Result<(), AllocError>
+    ensures text { Appends (words_text (line_words line.now)) to.old to.new result }
+    ensures room { IsShortLine line.now → TakesRoom 41 to.old to.new result }
 {
     match line {
-        ReplyLine::Name(name) => append_name(to, *name),
+        ReplyLine::Empty => Ok(()),
+        ReplyLine::Nil => append_word(to, b"nil"),
+        ReplyLine::Num(number) => append_number(to, *number),
+        ReplyLine::Two(nodes, edges) => {
+            append_number(to, *nodes)?;
+            append_number(to, *edges)
+        }
+        ReplyLine::Name(name) => append_item(to, *name),
+        ReplyLine::Names(names) => append_items(to, names.as_slice()),
+        ReplyLine::Cells(cells) => append_cells(to, cells.as_slice()),
+        ReplyLine::Label(label) => append_label(to, label.as_slice()),
     }
+}
+
+fn append_refusal(to: &mut Vec<u8>, refusal: &Refusal) -> Result<(), AllocError>
+    requires { IsRefusalNamed refusal.now }
+    ensures text { Appends (line_text (refusal_line refusal.now)) to.old to.new result }
+    ensures room { TakesRoom SHORT_REPLY to.old to.new result }
+{
+    append(to, b"!")?;
+    append_refusal_words(to, refusal)?;
+    append(to, b"\n")
+}
+
+fn append_refusal_words(to: &mut Vec<u8>, refusal: &Refusal) -> Result<(), AllocError>
+    requires { IsRefusalNamed refusal.now }
+    ensures text { Appends (words_text (refusal_words refusal.now)) to.old to.new result }
+    ensures room { TakesRoom 52 to.old to.new result }
+{
+    append_word(to, refusal.reason())?;
+    append_subject(to, refusal.subject())
 }
 
 fn append_answer(
@@ -75,9 +112,8 @@ fn append_answer(
     answer: &Answer,
 ) -> Result<(), AllocError>
     requires { IsAnswerNamed nodes.now edges.now answer.now }
-    ensures text { OnOk result (to.new.items ≡ to.old.items ++ answer_text nodes.now edges.now answer.now) }
-    ensures front { StartsAs to.old.items to.new.items }
-    ensures capacity { vec_capacity to.old ≤ vec_capacity to.new }
+    ensures { Appends (flat_map line_text (answer_lines nodes.now edges.now answer.now))
+        to.old to.new result }
 {
     match answer {
         Answer::Reach(reach) => append_reach(to, nodes, edges, reach),
@@ -91,100 +127,18 @@ fn append_reach(
     reach: &Reach,
 ) -> Result<(), AllocError>
     requires { IsReachNamed nodes.now edges.now reach.now }
-    ensures text { OnOk result (to.new.items ≡ to.old.items ++ reach_text nodes.now edges.now reach.now) }
-    ensures front { StartsAs to.old.items to.new.items }
-    ensures capacity { vec_capacity to.old ≤ vec_capacity to.new }
+    ensures { Appends (line_text (success (reach_words nodes.now edges.now reach.now)))
+        to.old to.new result }
 {
     match reach {
         Reach::Walk(arcs) => {
-            append(to, b"walk")?;
-            append_names(to, b" e", edges, arcs.as_slice())
+            append(to, b"= walk")?;
+            append_items_at(to, b"e", edges, arcs.as_slice())?;
         }
         Reach::Closed(set) => {
-            append(to, b"closed")?;
-            append_names(to, b" n", nodes, set.as_slice())
+            append(to, b"= closed")?;
+            append_items_at(to, b"n", nodes, set.as_slice())?;
         }
     }
-}
-
-// The name of the item at each place.
-fn append_names(
-    to: &mut Vec<u8>,
-    front: &[u8],
-    numbers: &[u32],
-    places: &[u32],
-) -> Result<(), AllocError>
-    requires { All (λ place. place < length numbers.now) places.now }
-    ensures text { OnOk result (to.new.items ≡ to.old.items ++ names_text front.now numbers.now places.now) }
-    ensures front { StartsAs to.old.items to.new.items }
-    ensures capacity { vec_capacity to.old ≤ vec_capacity to.new }
-{
-    for place in places {
-        append(to, front)?;
-        append_number(to, numbers[*place as usize])?;
-    }
-    Ok(())
-}
-
-fn append_refusal(to: &mut Vec<u8>, refusal: &Refusal) -> Result<(), AllocError>
-    ensures text { OnOk result (to.new.items ≡ to.old.items ++ refusal_text refusal.now) }
-    ensures front { StartsAs to.old.items to.new.items }
-    ensures short { vec_len to.new ≤ vec_len to.old + 32 }
-    ensures room { vec_len to.old + 32 ≤ vec_capacity to.old → IsOk result }
-    ensures capacity { vec_capacity to.old ≤ vec_capacity to.new }
-{
-    match refusal {
-        Refusal::LongLine => append(to, b"line"),
-        Refusal::Syntax(column) => {
-            append(to, b"syntax ")?;
-            append_number(to, *column)
-        }
-        Refusal::Unknown(name) => {
-            append(to, b"unknown ")?;
-            append_name(to, *name)
-        }
-        Refusal::FullNodes => append(to, b"full nodes"),
-        Refusal::FullEdges => append(to, b"full edges"),
-        Refusal::Memory => append(to, b"memory"),
-    }
-}
-
-fn append_name(to: &mut Vec<u8>, name: ItemName) -> Result<(), AllocError>
-    ensures text { OnOk result (to.new.items ≡ to.old.items ++ name_text name) }
-    ensures front { StartsAs to.old.items to.new.items }
-    ensures short { vec_len to.new ≤ vec_len to.old + 11 }
-    ensures room { vec_len to.old + 11 ≤ vec_capacity to.old → IsOk result }
-    ensures capacity { vec_capacity to.old ≤ vec_capacity to.new }
-{
-    match name {
-        ItemName::Node(number) => {
-            append(to, b"n")?;
-            append_number(to, number)
-        }
-        ItemName::Edge(number) => {
-            append(to, b"e")?;
-            append_number(to, number)
-        }
-    }
-}
-
-fn append_number(to: &mut Vec<u8>, number: u32) -> Result<(), AllocError>
-    ensures text { OnOk result (to.new.items ≡ to.old.items ++ decimal number) }
-    ensures front { StartsAs to.old.items to.new.items }
-    ensures short { vec_len to.new ≤ vec_len to.old + 10 }
-    ensures room { vec_len to.old + 10 ≤ vec_capacity to.old → IsOk result }
-    ensures capacity { vec_capacity to.old ≤ vec_capacity to.new }
-{
-    append(to, Buffer::new().format(number).as_bytes())
-}
-
-// Appends the bytes whole, or nothing.
-fn append(to: &mut Vec<u8>, bytes: &[u8]) -> Result<(), AllocError>
-    ensures text { OnOk result (to.new.items ≡ to.old.items ++ bytes.now) }
-    ensures front { StartsAs to.old.items to.new.items }
-    ensures short { vec_len to.new ≤ vec_len to.old + length bytes.now }
-    ensures room { vec_len to.old + length bytes.now ≤ vec_capacity to.old → IsOk result }
-    ensures capacity { vec_capacity to.old ≤ vec_capacity to.new }
-{
-    to.extend_from_slice(bytes)
+    append(to, b"\n")
 }
