@@ -41,6 +41,20 @@ impl<T: Drop> Row<T> {
         })
     }
 
+    /// A copy of the entries.
+    ///
+    /// # Errors
+    /// `NoMemory` where there is no room for them.
+    pub fn from_slice(alloc: Global, entries: &[T]) -> Result<Row<T>, NoMemory>
+    where
+        T: Copy,
+        ensures { IfOk result (λ row. row ≡ entries.now) }
+    {
+        Ok(Row {
+            entries: Vec::from_slice(alloc, entries)?,
+        })
+    }
+
     /// The entries of a vector. It takes no memory.
     pub fn from_vec(entries: Vec<T>) -> Row<T>
         ensures { result ≡ entries.items }
