@@ -3,3 +3,4 @@ pub mod Files
 pub mod Memory
 pub mod Parts
 pub mod Streams
+pub mod Stored
