@@ -1,2 +1,4 @@
 pub mod Numbers
 pub mod Named
+pub mod Cleared
+pub mod Reaches

@@ -1,5 +1,5 @@
 -- What a right answer numbers has a name.
-use Rattle.std.proofs.Common.{◌≡◌, ℕ, zero, suc, ◌+◌, ◌<◌, List, [], ◌∷◌, length, get_or, subst, sym, arith}
+use Rattle.std.proofs.Common.{◌≡◌, ℕ, zero, suc, ◌<◌, List, [], ◌∷◌, length, get_or, subst, sym, arith}
 use Rattle.std.specs.List.{All}
 use Rattle.graph_defs.specs.declared.net.Net.{Net}
 use Rattle.graph_defs.specs.declared.answer.Reach.{Reach}
@@ -9,7 +9,7 @@ use Rattle.graph_defs.specs.Walk.{IsWalk, IsReach}
 use Rattle.reply_text.specs.declared.reply.Answer.TheVariants as answers
 use Rattle.reply_text.specs.declared.reply.Named.{Named}
 use Rattle.reply_text.specs.Text.{IsReachNamed, IsAnswerNamed}
-use Rattle.console_state.specs.Query.{numbers}
+use Rattle.console_state.specs.Views.{numbers}
 use Rattle.console_state.proofs.Numbers.{length-numbers}
 
 -- what holds of the first and of all others

@@ -1,4 +1,8 @@
 pub mod State
-pub mod Machine
+pub mod Graph
+pub mod Views
+pub mod Order
 pub mod Query
 pub mod Step
+pub mod Obstacles
+pub mod Clear

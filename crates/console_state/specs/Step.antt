@@ -1,62 +1,65 @@
 -- What a command does.
-use Rattle.std.specs.Prelude.{◌≡◌, ◌⊎◌, Bool, true, List, Option}
-use Rattle.script_text.specs.Said.{Said}
+use Rattle.std.specs.Prelude.{◌≡◌, ◌⊎◌, List, Option, Some, None, option_map}
+use Rattle.leda_edge.specs.Stored.{Stored}
 use Rattle.script_text.specs.declared.argument.Arg.{Arg}
-use Rattle.script_text.specs.declared.word.EditWord.TheVariants as edits
+use Rattle.script_text.specs.declared.word.EditWord.{EditWord}
 use Rattle.script_text.specs.declared.word.QueryWord.{QueryWord}
-use Rattle.script_text.specs.declared.word.QueryWord.TheVariants as queries
 use Rattle.script_text.specs.declared.word.Word.{Word}
 use Rattle.script_text.specs.declared.word.Word.TheVariants.{Edit, Query}
+use Rattle.script_text.specs.Said.{Said}
+use Rattle.script_text.specs.Table.{may_lack_memory}
+use Rattle.reply_text.specs.declared.refusal.Refusal.{Refusal}
 use Rattle.reply_text.specs.declared.reply.Reply.{Reply}
-use Rattle.reply_text.specs.declared.reply.Reply.TheVariants.{Refused}
-use Rattle.reply_text.specs.declared.reply.Refusal.TheVariants.{Memory}
-use Rattle.leda_edge.specs.Files.{FileMap}
-use Rattle.console_state.specs.State.{State}
-use Rattle.console_state.specs.Machine.{Outcome, edited}
-use Rattle.console_state.specs.Query.{IsReplyTo}
+use Rattle.reply_text.specs.Outcome.{Outcome, refused, LacksMemory, IsQuiet}
+use Rattle.console_state.specs.State.{State, on_graph}
+use Rattle.console_state.specs.Graph.{graph_edited}
+use Rattle.console_state.specs.Order.{first_refusal}
+use Rattle.console_state.specs.Query.{Answers}
 
--- the files of the store, where it tells them
-abbrev pub Files : Type 0
-Files = Option FileMap
+-- an edit by its word, if these are arguments that the word takes
+abbrev pub edited : EditWord → List Arg → State → Option (Outcome State)
+edited word args s = option_map (on_graph s) (graph_edited word args s.graph)
 
--- whether a command may be answered by want of memory
-abbrev pub may_lack_memory : Word → Bool
-may_lack_memory (Edit edits.Node) = true
-may_lack_memory (Edit edits.Edge) = true
-may_lack_memory (Query queries.Reach) = true
+-- the session with the answer to a query kept for a later check; that to `reach` isn't kept
+abbrev pub with_kept : Said → Reply → State → State
+with_kept said reply s = s
 
--- the outcome, or want of memory, which changes nothing
-abbrev pub LacksOr : Outcome → State → Reply → State → Type 0
-LacksOr outcome s reply s' = ((reply ≡ Refused Memory) × (s' ≡ s)) ⊎ ((s', reply) ≡ outcome)
-
--- a query's reply, or want of memory
-abbrev pub LacksOrReplies : QueryWord → List Arg → State → Reply → Type 0
-LacksOrReplies word args s reply = (reply ≡ Refused Memory) ⊎ IsReplyTo word args s reply
-
--- memory was wanted, which this command may be answered, and nothing has changed
-pub record LacksMemory (word : Word) (s : State) (f : Files) (reply : Reply) (s' : State) (f' : Files) : Type 0 where
-  pub may : may_lack_memory word ≡ true
-  pub answer : reply ≡ Refused Memory
-  pub state : s' ≡ s
+-- the edit leads to the outcome that its word says; no file changes
+pub record Edits (word : EditWord) (args : List Arg) (s : State) (f : Stored)
+    (reply : Reply) (s' : State) (f' : Stored) : Type 0 where
+  pub outcome : edited word args s ≡ Some (s', reply)
   pub files : f' ≡ f
 
--- the next state and the reply are these, and no file has changed
-pub record Gives (outcome : Outcome) (f : Files) (reply : Reply) (s' : State) (f' : Files) : Type 0 where
-  pub gives : (s', reply) ≡ outcome
+-- the query is answered, and its answer is kept; nothing else changes
+pub record Asks (word : QueryWord) (args : List Arg) (s : State) (f : Stored)
+    (reply : Reply) (s' : State) (f' : Stored) : Type 0 where
+  pub answers : Answers word args s reply
+  pub kept : s' ≡ with_kept (record { word = Query word; args = args }) reply s
   pub files : f' ≡ f
 
--- the query is replied to, and nothing has changed
-pub record Replies (word : QueryWord) (args : List Arg) (s : State) (f : Files) (reply : Reply) (s' : State) (f' : Files) : Type 0 where
-  pub replies : IsReplyTo word args s reply
-  pub state : s' ≡ s
+-- the command is refused, and nothing changes
+pub record IsRefusedBy (refusal : Refusal) (s : State) (f : Stored)
+    (reply : Reply) (s' : State) (f' : Stored) : Type 0 where
+  pub outcome : (s', reply) ≡ refused s refusal
   pub files : f' ≡ f
 
--- what a command by its word does, where memory is there
-abbrev pub Does : Word → List Arg → State → Files → Reply → State → Files → Type 0
-Does (Edit word) args s f reply s' f' = Gives (edited word args s) f reply s' f'
-Does (Query word) args s f reply s' f' = Replies word args s f reply s' f'
+-- what a command by its word does, where nothing stands in its way
+abbrev pub Does : Word → List Arg → State → Stored → Reply → State → Stored → Type 0
+Does (Edit word) args s f reply s' f' = Edits word args s f reply s' f'
+Does (Query word) args s f reply s' f' = Asks word args s f reply s' f'
 
--- the command leads from the state s and the files f to s' and f', with this reply
-abbrev pub Step : State → Files → Said → Reply → State → Files → Type 0
-Step s f command reply s' f' =
-    LacksMemory command.word s f reply s' f' ⊎ Does command.word command.args s f reply s' f'
+-- the refusal, if there is one, or else what the command does
+abbrev pub DoesUnless : Option Refusal → Said → State → Stored → Reply → State → Stored → Type 0
+DoesUnless (Some refusal) said s f reply s' f' = IsRefusedBy refusal s f reply s' f'
+DoesUnless None said s f reply s' f' = Does said.word said.args s f reply s' f'
+
+-- the command leads from the session s and the store f to s' and f', with this reply
+abbrev pub Step : State → Stored → Said → Reply → State → Stored → Type 0
+Step s f said reply s' f' =
+    LacksMemory {S = State × Stored} (may_lack_memory said.word) (s, f) reply (s', f')
+    ⊎ DoesUnless (first_refusal s said) said s f reply s' f'
+
+-- the reply is short, or want of memory may stand in its place, since nothing has changed
+abbrev pub IsQuietStep : State → Stored → Said → Reply → State → Stored → Type 0
+IsQuietStep s f said reply s' f' =
+    IsQuiet {S = State × Stored} (may_lack_memory said.word) (s, f) reply (s', f')

@@ -1,21 +1,28 @@
-ghost use Rattle.std.specs.Prelude.{◌≡◌, ◌⊎◌, ◌-◌, ◌^◌, ◌<◌, [], ◌∷◌, length, IfOk};
+//! A session: its state, and the commands on it.
+ghost use Rattle.std.specs.Prelude.{◌≡◌, ◌⊎◌, ◌-◌, ◌^◌, ◌<◌, Some, None, true, [], ◌∷◌, length, IfOk, OnErr};
+ghost use Rattle.leda_edge.specs.Stored.{stored, StaysStored};
 ghost use Rattle.script_text.specs.declared.argument.Arg.TheVariants as args;
 ghost use Rattle.script_text.specs.declared.word.QueryWord.TheVariants as queries;
+ghost use Rattle.script_text.specs.declared.word.Word.TheVariants as words;
+ghost use Rattle.script_text.specs.Table.{forms_of, may_lack_memory, IsWhole};
 ghost use Rattle.reply_text.specs.Text.{IsNamed, IsShort};
-ghost use Rattle.reply_text.specs.declared.reply.Reply.TheVariants.{Refused};
-ghost use Rattle.reply_text.specs.declared.reply.Refusal.TheVariants.{Memory};
-ghost use Rattle.script_text.specs.Rows.{IsWhole};
+ghost use Rattle.reply_text.specs.Outcome.{LacksMemory, IsQuiet};
 ghost use Rattle.console_state.specs.State.{empty};
-ghost use Rattle.console_state.specs.Machine.{is_node, first_unknown, node, edge};
-ghost use Rattle.console_state.specs.Query.{numbers};
-ghost use Rattle.console_state.specs.Step.{Step, LacksMemory, LacksOr, LacksOrReplies};
+ghost use Rattle.console_state.specs.Graph.{is_among as among};
+ghost use Rattle.console_state.specs.Views.{standing, has_object, holds_cell, is_directed, numbers, node_names, edge_names};
+ghost use Rattle.console_state.specs.Clear.{AreMet};
+ghost use Rattle.console_state.specs.Obstacles.{refusal_of, HasName};
+ghost use Rattle.console_state.specs.Query.{Answers};
+ghost use Rattle.console_state.specs.Step.{edited, with_kept, Step, IsQuietStep};
 
-use graph_defs::{ARC_LIMIT, NODE_LIMIT, Net};
+use crate::graph::{is_among, new_edge, new_node};
+use crate::order::{Obstacle, Standing};
+use graph_defs::Net;
 use graph_search::reach;
 use leda_base::{ItemName, NoMemory, Row};
 use leda_edge::Store;
-use reply_text::{Answer, Named, Refusal, Reply, ReplyLine};
-use script_text::{Arg, Command, EditWord, QueryWord, Word};
+use reply_text::{Answer, Named, ObjectName, Refusal, Reply};
+use script_text::{Arg, Command, EditWord, Kinds, QueryWord, Word};
 use std::alloc::Global;
 use std::marker::Model;
 
@@ -53,63 +60,83 @@ impl Session {
 
     /// Runs one command, which has the arguments that its word takes.
     ///
-    /// A refusal leaves the session and the files as they were.
+    /// A refusal leaves the session and the files as they were. Behind it `keep` makes the command's step whole.
     pub fn apply<F: Store>(&mut self, command: &Command, files: &mut F) -> Reply
         requires { IsWhole command.now }
-        ensures step { Step self.old (F.files files.old) command.now result self.new (F.files files.new) }
-        ensures store { files.new ≡ files.old }
+        ensures step { Step self.old (stored (F.files files.old) (F.faults files.old))
+            command.now result (with_kept command.now result self.new)
+            (stored (F.files files.new) (F.faults files.new)) }
+        ensures store { StaysStored (stored (F.files files.old) (F.faults files.old))
+            (stored (F.files files.new) (F.faults files.new)) }
         // What the reply numbers has a name.
         ensures named { IsNamed result }
-        // A reply of any length may be answered by want of memory in its place, since nothing has changed.
-        ensures quiet { IsShort result ⊎ LacksMemory command.now.word self.old (F.files files.old)
-            (Refused Memory) self.new (F.files files.new) }
+        // A reply of any length may be want of memory in its place, since nothing has changed.
+        ensures quiet { IsQuietStep self.old (stored (F.files files.old) (F.faults files.old))
+            command.now result self.new (stored (F.files files.new) (F.faults files.new)) }
     {
-        match (command.word(), command.args()) {
-            (Word::Edit(EditWord::Node), _) => self.new_node(),
-            (Word::Edit(EditWord::Edge), [Arg::Node(from), Arg::Node(to)]) => self.new_edge(
-                *from, *to,
-            ),
-            (Word::Query(QueryWord::Reach), [Arg::Node(from), Arg::Node(to)]) => {
-                self.reach(*from, *to)
-            }
-            // A whole command has the arguments above.
-            _ => unreachable!(),
+        if let Some(obstacle) = self.first_obstacle(
+            command.word(),
+            command.forms(),
+            command.args(),
+        ) {
+            return Reply::Refused(self.refusal_of(obstacle).unwrap_or(Refusal::Memory));
+        }
+        match command.word() {
+            Word::Edit(word) => self.edit(word, command.args()),
+            Word::Query(word) => self.query(word, command.args()),
         }
     }
 
-    fn new_node(&mut self) -> Reply
-        ensures { (self.new, result) ≡ node self.old }
+    /// Keeps the answer to a query, so that it can be checked later. It takes no memory.
+    ///
+    /// An answer to `reach` isn't kept.
+    pub fn keep(&mut self, command: Command, reply: Reply)
+        ensures { self.new ≡ with_kept command reply self.old }
+    {}
+
+    /// An edit that nothing stands in the way of.
+    fn edit(&mut self, word: EditWord, args: &[Arg]) -> Reply
+        requires whole { IsWhole (record { word = Word.Edit word; args = args.now }) }
+        requires met { AreMet self.old (forms_of (Word.Edit word)) args.now }
+        ensures does { LacksMemory (may_lack_memory (Word.Edit word)) self.old result self.new
+            ⊎ (edited word args.now self.old ≡ Some (self.new, result)) }
+        ensures named { IsNamed result }
+        ensures short { IsShort result }
     {
-        if self.graph.n == NODE_LIMIT {
-            return Reply::Refused(Refusal::FullNodes);
+        match word {
+            EditWord::Node => new_node(&mut self.graph),
+            EditWord::Edge => match args {
+                [Arg::Node(from), Arg::Node(to)] => new_edge(&mut self.graph, *from, *to),
+                // A whole command has the arguments above.
+                _ => unreachable!(),
+            },
         }
-        self.graph.n += 1;
-        Reply::Line(ReplyLine::Name(ItemName::Node(self.graph.n)))
     }
 
-    fn new_edge(&mut self, from: u32, to: u32) -> Reply
-        ensures { LacksOr (edge self.old from to) self.old result self.new }
+    /// The reply to a query that nothing stands in the way of.
+    fn query(&self, word: QueryWord, args: &[Arg]) -> Reply
+        requires whole { IsWhole (record { word = Word.Query word; args = args.now }) }
+        requires met { AreMet self.now (forms_of (Word.Query word)) args.now }
+        ensures replies { LacksMemory (may_lack_memory (Word.Query word)) self.now result self.now
+            ⊎ Answers word args.now self.now result }
+        ensures named { IsNamed result }
+        ensures quiet { IsQuiet (may_lack_memory (Word.Query word)) self.now result self.now }
     {
-        if let Some(refusal) = self.first_unknown(from, to) {
-            return Reply::Refused(refusal);
-        }
-        let made = self.graph.arcs.as_slice().len();
-        if made == ARC_LIMIT as usize {
-            return Reply::Refused(Refusal::FullEdges);
-        }
-        match self.graph.arcs.push((from - 1, to - 1)) {
-            Ok(()) => Reply::Line(ReplyLine::Name(ItemName::Edge(made as u32 + 1))),
-            Err(NoMemory) => Reply::Refused(Refusal::Memory),
+        match word {
+            QueryWord::Reach => match args {
+                [Arg::Node(from), Arg::Node(to)] => self.reach(*from, *to),
+                _ => unreachable!(),
+            },
         }
     }
 
     fn reach(&self, from: u32, to: u32) -> Reply
-        ensures replies { LacksOrReplies queries.Reach (args.Node from ∷ args.Node to ∷ []) self.now result }
+        requires from { among self.now.graph.n from ≡ true }
+        requires to { among self.now.graph.n to ≡ true }
+        ensures replies { LacksMemory true self.now result self.now
+            ⊎ Answers queries.Reach (args.Node from ∷ args.Node to ∷ []) self.now result }
         ensures named { IsNamed result }
     {
-        if let Some(refusal) = self.first_unknown(from, to) {
-            return Reply::Refused(refusal);
-        }
         let Ok(answer) = reach(self.alloc, &self.graph, from - 1, to - 1) else {
             return Reply::Refused(Refusal::Memory);
         };
@@ -119,10 +146,10 @@ impl Session {
         }
     }
 
-    // The answer, with the names of the nodes and edges that it numbers.
+    /// The answer, with the names of the nodes and edges that it numbers.
     fn named(&self, answer: Answer) -> Result<Named, NoMemory>
-        ensures nodes { IfOk result (λ named. named.nodes ≡ numbers self.now.graph.n) }
-        ensures edges { IfOk result (λ named. named.edges ≡ numbers (length self.now.graph.arcs)) }
+        ensures nodes { IfOk result (λ named. named.nodes ≡ node_names self.now) }
+        ensures edges { IfOk result (λ named. named.edges ≡ edge_names self.now) }
         ensures answer { IfOk result (λ named. named.answer ≡ answer) }
     {
         let nodes = numbers(self.alloc, self.graph.n)?;
@@ -134,27 +161,67 @@ impl Session {
         })
     }
 
-    // Names the leftmost of two nodes that was never made.
-    fn first_unknown(&self, from: u32, to: u32) -> Option<Refusal>
-        ensures { result ≡ first_unknown self.now from to }
+    /// The refusal that tells what stands in a command's way.
+    ///
+    /// # Errors
+    /// `NoMemory`, only where the refusal has a name.
+    fn refusal_of(&self, obstacle: Obstacle<'_>) -> Result<Refusal, NoMemory>
+        ensures ok { IfOk result (λ refusal. refusal ≡ refusal_of obstacle.entry) }
+        ensures err { OnErr result (HasName obstacle.entry) }
     {
-        if !self.is_node(from) {
-            Some(Refusal::Unknown(ItemName::Node(from)))
-        } else if !self.is_node(to) {
-            Some(Refusal::Unknown(ItemName::Node(to)))
-        } else {
-            None
+        match obstacle {
+            Obstacle::Absent(name) => {
+                let name = Row::from_slice(self.alloc, name)?;
+                Ok(Refusal::Object(ObjectName::Name(name)))
+            }
+            Obstacle::Unknown(item) => Ok(Refusal::Unknown(item)),
+            Obstacle::Dead(item) => Ok(Refusal::Dead(item)),
+            Obstacle::Stray(number) => Ok(Refusal::Object(ObjectName::Cell(number))),
+            Obstacle::Hidden(item) => Ok(Refusal::Hidden(item)),
+            Obstacle::Undirected => Ok(Refusal::Undirected),
+            Obstacle::Taken(name) => Ok(Refusal::Taken(Row::from_slice(self.alloc, name)?)),
         }
     }
 
-    fn is_node(&self, number: u32) -> bool
-        ensures { result ≡ is_node self.now number }
+    /// How an item stands. No container has items yet.
+    pub(crate) fn standing(&self, item: ItemName) -> Standing
+        ensures { result ≡ standing self.now item }
     {
-        0 < number && number <= self.graph.n
+        let (count, number) = match item {
+            ItemName::Node(number) => (self.graph.n, number),
+            ItemName::Edge(number) => (self.graph.arcs.as_slice().len() as u32, number),
+            ItemName::Cell(number) => (0, number),
+        };
+        if is_among(count, number) {
+            Standing::Visible
+        } else {
+            Standing::Unknown
+        }
+    }
+
+    /// Whether an object of these kinds has the name. There are no objects yet.
+    pub(crate) fn has_object(&self, _kinds: Kinds, _name: &[u8]) -> bool
+        ensures { result ≡ has_object self.now _kinds _name.now }
+    {
+        false
+    }
+
+    /// Whether the item is one of a container of these kinds.
+    pub(crate) fn holds_cell(&self, _kinds: Kinds, _number: u32) -> bool
+        ensures { result ≡ holds_cell self.now _kinds _number }
+    {
+        false
+    }
+
+    /// Whether the graph is directed, as every graph is so far.
+    pub(crate) fn is_directed(&self) -> bool
+        ensures { result ≡ is_directed self.now }
+    {
+        true
     }
 }
 
-// The numbers in the names of so many items, of which none was deleted.
+/// The numbers from 1 to a count: those in the names of so many items, of which none was deleted.
 #[tactic(auto, using(crate::proofs::Numbers::numbers_more))]
 fn numbers(alloc: Global, count: u32) -> Result<Row<u32>, NoMemory>
     requires { count < 2 ^ 32 - 1 }

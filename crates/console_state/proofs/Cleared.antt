@@ -1,0 +1,82 @@
+-- What the arguments of a command meet where nothing is refused of them.
+use Rattle.std.proofs.Common.{◌≡◌, Bool, true, false, List, [], ◌∷◌, refl, cond}
+use Rattle.std.specs.Prelude.{Option, None, Some, option_map}
+use Rattle.std.specs.Option.{option_or}
+use Rattle.std.specs.Bool.{MatchBool}
+use Rattle.leda_base.specs.declared.ItemName.{ItemName}
+use Rattle.leda_base.specs.declared.ItemName.TheVariants as items
+use Rattle.script_text.specs.declared.argument.Arg.{Arg}
+use Rattle.script_text.specs.declared.argument.Arg.TheVariants as args
+use Rattle.script_text.specs.declared.form.Form.{Form}
+use Rattle.script_text.specs.declared.word.Word.{Word}
+use Rattle.console_state.specs.declared.order.Rule.TheVariants as rules
+use Rattle.console_state.specs.declared.order.Standing.{Standing}
+use Rattle.console_state.specs.declared.order.Standing.TheVariants.{Unknown, Dead, Hidden, Visible}
+use Rattle.console_state.specs.State.{State}
+use Rattle.console_state.specs.Views.{standing}
+use Rattle.console_state.specs.Order.{gone, hidden, asks_visible, refusal_by, leftmost, first_of, refusal_among}
+use Rattle.console_state.specs.Clear.{IsLive, IsMet, AreMet}
+
+-- the first of six, each of which is changed
+pub first_of-six : {A B : Type 0} (f : A → B) (a b c d e g : Option A)
+    → option_map f (option_or (option_or (option_or (option_or (option_or a b) c) d) e) g)
+    ≡ first_of (option_map f a ∷ option_map f b ∷ option_map f c
+    ∷ option_map f d ∷ option_map f e ∷ option_map f g ∷ [])
+first_of-six f (Some x) b c d e g = refl
+first_of-six f None (Some x) c d e g = refl
+first_of-six f None None (Some x) d e g = refl
+first_of-six f None None None (Some x) e g = refl
+first_of-six f None None None None (Some x) g = refl
+first_of-six f None None None None None (Some x) = refl
+first_of-six f None None None None None None = refl
+
+-- neither is there
+or-none : {A : Type 0} (a b : Option A) → option_or a b ≡ None → (a ≡ None) × (b ≡ None)
+or-none None b h = (refl, h)
+or-none (Some x) b h = cc
+
+-- an item that is neither gone nor hidden where that counts
+stands : (test : Bool) (at : Standing) (x : ItemName) → gone at x ≡ None
+    → cond test (hidden at x) None ≡ None → MatchBool test (at ≡ Visible) (IsLive at)
+stands test Unknown x g h = cc
+stands test Dead x g h = cc
+stands true Hidden x g h = cc
+stands false Hidden x g h = tt
+stands true Visible x g h = refl
+stands false Visible x g h = tt
+
+-- an argument of which neither rule refuses anything
+met : (s : State) (form : Form) (arg : Arg) (later : List Arg)
+    → refusal_by s rules.Gone form arg later ≡ None → refusal_by s rules.Hidden form arg later ≡ None
+    → IsMet s form arg later
+met s form (args.Node v) later g h = stands (asks_visible form) (standing s (items.Node v)) (items.Node v) g h
+met s form (args.Edge e) later g h = stands (asks_visible form) (standing s (items.Edge e)) (items.Edge e) g h
+met s form (args.Cell i) later g h = stands (asks_visible form) (standing s (items.Cell i)) (items.Cell i) g h
+met s form (args.Name name) later g h = tt
+met s form (args.Num number) later g h = tt
+met s form (args.Label label) later g h = tt
+met s form args.Labels later g h = tt
+met s form (args.File file) later g h = tt
+met s form (args.Mode mode) later g h = tt
+met s form (args.Kept sort) later g h = tt
+
+-- arguments of which neither rule refuses anything
+all-met : (s : State) (forms : List Form) (args : List Arg)
+    → leftmost s rules.Gone forms args ≡ None → leftmost s rules.Hidden forms args ≡ None → AreMet s forms args
+all-met s [] [] g h = tt
+all-met s [] (arg ∷ later) g h = tt
+all-met s (form ∷ forms) [] g h = tt
+all-met s (form ∷ forms) (arg ∷ later) g h =
+    let gone = or-none _ _ g in
+    let hidden = or-none _ _ h in
+    (met s form arg later gone.0 hidden.0, all-met s forms later gone.1 hidden.1)
+
+-- nothing stands in the way of the command
+pub cleared : (s : State) (word : Word) (forms : List Form) (args : List Arg)
+    → refusal_among s word forms args ≡ None → AreMet s forms args
+cleared s word forms args h =
+    let one = or-none _ _ h in
+    let two = or-none _ _ one.1 in
+    let three = or-none _ _ two.1 in
+    let four = or-none _ _ three.1 in
+    all-met s forms args two.0 four.0

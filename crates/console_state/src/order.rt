@@ -1,0 +1,220 @@
+//! What stands in the way of a command, whatever the command is: by the forms of its arguments, in one order.
+ghost use Rattle.std.specs.Prelude.{◌≡◌, option_map, IfSome};
+ghost use Rattle.std.specs.List.{AllZip};
+ghost use Rattle.script_text.specs.Form.{keeps_bytes, IsOfForm};
+ghost use Rattle.script_text.specs.Table.{keeps_any};
+ghost use Rattle.console_state.specs.Order.{asked, item_of as the_item, absent_object, gone_item, stray_cell, asks_visible, hidden_item, taken_name, refusal_by, leftmost, asks_directed, wrong_kind, refusal_among};
+ghost use Rattle.console_state.specs.Obstacles.{refusal_of, IsNameOf};
+
+use crate::session::Session;
+use leda_base::ItemName;
+use script_text::{Arg, Form, Kinds, QueryWord, Sight, Word};
+
+/// How an item stands.
+#[derive(Clone, Copy, Debug, PartialEq, Eq)]
+pub(crate) enum Standing {
+    /// No item of the name was ever made.
+    Unknown,
+    /// It was deleted.
+    Dead,
+    Hidden,
+    Visible,
+}
+
+/// By what an argument is refused, in the order in which that is looked for.
+#[derive(Clone, Copy, Debug, PartialEq, Eq)]
+pub(crate) enum Rule {
+    /// No object of the kinds that are asked for has the name.
+    Absent,
+    /// The item is unknown or dead.
+    Gone,
+    /// The item is one of a container of another kind.
+    Stray,
+    /// The item has to be visible, and is hidden.
+    Hidden,
+    /// An object has the name that a new one is to get.
+    Taken,
+}
+
+/// What stands in the way of a command.
+#[derive(Clone, Copy)]
+pub(crate) enum Obstacle<'a> {
+    Absent(&'a [u8]),
+    Unknown(ItemName),
+    Dead(ItemName),
+    Stray(u32),
+    Hidden(ItemName),
+    Undirected,
+    Taken(&'a [u8]),
+}
+
+impl Session {
+    /// What comes first in the way of a command, before the conditions that it has of its own.
+    pub(crate) fn first_obstacle<'a>(
+        &self,
+        word: Word,
+        forms: &[Form],
+        args: &'a [Arg],
+    ) -> Option<Obstacle<'a>>
+        requires { AllZip IsOfForm args.now forms.now }
+        ensures first { option_map refusal_of result
+            ≡ refusal_among self.now word forms.now args.now }
+        ensures names { IfSome result (IsNameOf (keeps_any forms.now)) }
+    {
+        let absent = self.leftmost(Rule::Absent, forms, args);
+        let gone = self.leftmost(Rule::Gone, forms, args);
+        let stray = self.leftmost(Rule::Stray, forms, args);
+        let hidden = self.leftmost(Rule::Hidden, forms, args);
+        let kind = self.wrong_kind(word);
+        let taken = self.leftmost(Rule::Taken, forms, args);
+        absent.or(gone).or(stray).or(hidden).or(kind).or(taken)
+    }
+
+    /// What a rule finds at the leftmost argument at which it finds something.
+    fn leftmost<'a>(&self, rule: Rule, forms: &[Form], args: &'a [Arg]) -> Option<Obstacle<'a>>
+        requires { AllZip IsOfForm args.now forms.now }
+        ensures first { option_map refusal_of result ≡ leftmost self.now rule forms.now args.now }
+        ensures names { IfSome result (IsNameOf (keeps_any forms.now)) }
+    {
+        match (forms, args) {
+            ([form, forms @ ..], [arg, later @ ..]) => {
+                match self.obstacle_by(rule, *form, arg, later) {
+                    Some(obstacle) => Some(obstacle),
+                    None => self.leftmost(rule, forms, later),
+                }
+            }
+            _ => None,
+        }
+    }
+
+    /// What a rule finds at an argument, which comes before others.
+    fn obstacle_by<'a>(
+        &self,
+        rule: Rule,
+        form: Form,
+        arg: &'a Arg,
+        later: &[Arg],
+    ) -> Option<Obstacle<'a>>
+        requires { IsOfForm arg.now form }
+        ensures first { option_map refusal_of result
+            ≡ refusal_by self.now rule form arg.now later.now }
+        ensures names { IfSome result (IsNameOf (keeps_bytes form)) }
+    {
+        match rule {
+            Rule::Absent => self.absent_object(form, arg, later),
+            Rule::Gone => self.gone_item(arg),
+            Rule::Stray => self.stray_cell(form, arg),
+            Rule::Hidden => self.hidden_item(form, arg),
+            Rule::Taken => self.taken_name(form, arg),
+        }
+    }
+
+    fn absent_object<'a>(&self, form: Form, arg: &'a Arg, later: &[Arg]) -> Option<Obstacle<'a>>
+        requires { IsOfForm arg.now form }
+        ensures first { option_map refusal_of result
+            ≡ absent_object self.now form arg.now later.now }
+        ensures names { IfSome result (IsNameOf (keeps_bytes form)) }
+    {
+        match (form, arg) {
+            (Form::Object(kinds), Arg::Name(name)) => {
+                let name = name.as_slice();
+                (!self.has_object(asked(kinds, later), name)).then_some(Obstacle::Absent(name))
+            }
+            _ => None,
+        }
+    }
+
+    fn gone_item(&self, arg: &Arg) -> Option<Obstacle<'static>>
+        ensures { option_map refusal_of result ≡ gone_item self.now arg.now }
+    {
+        let item = item_of(arg)?;
+        match self.standing(item) {
+            Standing::Unknown => Some(Obstacle::Unknown(item)),
+            Standing::Dead => Some(Obstacle::Dead(item)),
+            Standing::Hidden | Standing::Visible => None,
+        }
+    }
+
+    fn stray_cell(&self, form: Form, arg: &Arg) -> Option<Obstacle<'static>>
+        ensures { option_map refusal_of result ≡ stray_cell self.now form arg.now }
+    {
+        match (form, arg) {
+            (Form::Cell(kinds), Arg::Cell(number)) => {
+                (!self.holds_cell(kinds, *number)).then_some(Obstacle::Stray(*number))
+            }
+            _ => None,
+        }
+    }
+
+    fn hidden_item(&self, form: Form, arg: &Arg) -> Option<Obstacle<'static>>
+        ensures { option_map refusal_of result ≡ hidden_item self.now form arg.now }
+    {
+        if !asks_visible(form) {
+            return None;
+        }
+        let item = item_of(arg)?;
+        (self.standing(item) == Standing::Hidden).then_some(Obstacle::Hidden(item))
+    }
+
+    fn taken_name<'a>(&self, form: Form, arg: &'a Arg) -> Option<Obstacle<'a>>
+        requires { IsOfForm arg.now form }
+        ensures first { option_map refusal_of result ≡ taken_name self.now form arg.now }
+        ensures names { IfSome result (IsNameOf (keeps_bytes form)) }
+    {
+        match (form, arg) {
+            (Form::NewName, Arg::Name(name)) => {
+                let name = name.as_slice();
+                self.has_object(Kinds::Any, name)
+                    .then_some(Obstacle::Taken(name))
+            }
+            _ => None,
+        }
+    }
+
+    fn wrong_kind(&self, word: Word) -> Option<Obstacle<'static>>
+        ensures { option_map refusal_of result ≡ wrong_kind self.now word }
+    {
+        (asks_directed(word) && !self.is_directed()).then_some(Obstacle::Undirected)
+    }
+}
+
+/// The kinds that are asked for: where these are those of values of the next argument, by what that is.
+fn asked(kinds: Kinds, later: &[Arg]) -> Kinds
+    ensures { result ≡ asked kinds later.now }
+{
+    match (kinds, later) {
+        (Kinds::ElementValues, [Arg::Node(_), ..]) => Kinds::NodeValues,
+        (Kinds::ElementValues, [Arg::Edge(_), ..]) => Kinds::EdgeValues,
+        _ => kinds,
+    }
+}
+
+/// The item that an argument names.
+fn item_of(arg: &Arg) -> Option<ItemName>
+    ensures { result ≡ the_item arg.now }
+{
+    match arg {
+        Arg::Node(number) => Some(ItemName::Node(*number)),
+        Arg::Edge(number) => Some(ItemName::Edge(*number)),
+        Arg::Cell(number) => Some(ItemName::Cell(*number)),
+        _ => None,
+    }
+}
+
+fn asks_visible(form: Form) -> bool
+    ensures { result ≡ asks_visible form }
+{
+    matches!(
+        form,
+        Form::Node(Sight::Visible) | Form::Edge(Sight::Visible) | Form::Element(Sight::Visible)
+    )
+}
+
+fn asks_directed(word: Word) -> bool
+    ensures { result ≡ asks_directed word }
+{
+    match word {
+        Word::Edit(_) => false,
+        Word::Query(QueryWord::Reach) => true,
+    }
+}
