@@ -10,22 +10,22 @@ use Rattle.script_text.specs.Line.{line_of, kept_most, kept_of}
 use Rattle.script_text.proofs.Kept.{line_of-kept}
 use Rattle.reply_text.specs.declared.reply.Reply.{Reply}
 use Rattle.console_state.specs.State.{State, empty}
-use Rattle.console_state.specs.Step.{Files}
-use Rattle.console_run.specs.Lines.{is_line_end, IsPlain, EndsLine, lines_of}
+use Rattle.leda_edge.specs.Stored.{Stored}
+use Rattle.console_run.specs.Lines.{is_line_end, IsPlain, lines_of}
 use Rattle.console_run.specs.Session.{Meets, LineStep, Session, answer_text, texts}
 use Rattle.console_run.specs.Answers.{Known, Answered, BrokeOff}
-use Rattle.console_run.specs.Progress.{WroteReply, CutReply, Progress, Broken}
+use Rattle.console_run.specs.Progress.{EndsLine, WroteReply, CutReply, Progress, Broken}
 use Rattle.console_run.proofs.Splits.{split-append, lines-ended, lines-unended}
 use Rattle.console_run.proofs.Steps.{session-more, texts-more}
 
 -- what is kept of a line is run as the line
-of_line : (s : State) (f : Files) (kept line : List ℕ) (answer : Option Reply) (s' : State) (f' : Files)
+of_line : (s : State) (f : Stored) (kept line : List ℕ) (answer : Option Reply) (s' : State) (f' : Stored)
     → kept ≡ kept_of line → LineStep s f kept answer s' f' → LineStep s f line answer s' f'
 of_line s f kept line answer s' f' e step =
     subst (λ m. Meets m s f answer s' f') (ap line_of e ∙ line_of-kept line) step
 
 -- nothing taken, nothing done
-pub begun : (held : Known) (files : Files) → Appends held held [] → Progress held files [] held files empty []
+pub begun : (held : Known) (files : Stored) → Appends held held [] → Progress held files [] held files empty []
 begun held files none = record {
   lines = [];
   rest = [];
@@ -37,7 +37,7 @@ begun held files none = record {
 }
 
 -- bytes that end no line
-pub plain-bytes : (held : Known) (files : Files) (taken : List ℕ) (h : Known) (f : Files) (s : State) (kept : List ℕ)
+pub plain-bytes : (held : Known) (files : Stored) (taken : List ℕ) (h : Known) (f : Stored) (s : State) (kept : List ℕ)
     (p : Progress held files taken h f s kept) (bytes kept' : List ℕ) → IsPlain bytes
     → kept' ≡ kept_of (p.rest ++ bytes) → Progress held files (taken ++ bytes) h f s kept'
 plain-bytes held files taken h f s kept p bytes kept' plain k = record {
@@ -51,9 +51,9 @@ plain-bytes held files taken h f s kept p bytes kept' plain k = record {
 }
 
 -- a line that ends, and its reply
-pub line-answered : (held : Known) (files : Files) (taken : List ℕ) (h : Known) (f : Files) (s : State) (kept : List ℕ)
+pub line-answered : (held : Known) (files : Stored) (taken : List ℕ) (h : Known) (f : Stored) (s : State) (kept : List ℕ)
     (p : Progress held files taken h f s kept) (line kept' : List ℕ) → IsPlain line
-    → kept' ≡ kept_of (p.rest ++ line) → (h' : Known) (f' : Files) (s' : State) → WroteReply kept' s f h s' f' h'
+    → kept' ≡ kept_of (p.rest ++ line) → (h' : Known) (f' : Stored) (s' : State) → WroteReply kept' s f h s' f' h'
     → Progress held files (taken ++ (line ++ 10 ∷ [])) h' f' s' []
 line-answered held files taken h f s kept p line kept' plain k h' f' s' w =
     let whole = p.rest ++ line in
@@ -70,9 +70,9 @@ line-answered held files taken h f s kept p line kept' plain k h' f' s' w =
     }
 
 -- a line whose reply is cut off
-cut_off : (held : Known) (files : Files) (taken : List ℕ) (h : Known) (f : Files) (s : State) (kept : List ℕ)
+cut_off : (held : Known) (files : Stored) (taken : List ℕ) (h : Known) (f : Stored) (s : State) (kept : List ℕ)
     (p : Progress held files taken h f s kept) (line kept' : List ℕ) → kept' ≡ kept_of line
-    → (h' : Known) (f' : Files) (s' : State) → CutReply kept' s f h s' f' h' → BrokeOff files held p.lines line f' h'
+    → (h' : Known) (f' : Stored) (s' : State) → CutReply kept' s f h s' f' h' → BrokeOff files held p.lines line f' h'
 cut_off held files taken h f s kept p line kept' k h' f' s' w = record {
   answers = p.answers;
   state = s;
@@ -87,9 +87,9 @@ cut_off held files taken h f s kept p line kept' k h' f' s' w = record {
 }
 
 -- the reply to a line is cut off, which ended before more bytes that were taken
-pub line-cut : (held : Known) (files : Files) (taken : List ℕ) (h : Known) (f : Files) (s : State) (kept : List ℕ)
+pub line-cut : (held : Known) (files : Stored) (taken : List ℕ) (h : Known) (f : Stored) (s : State) (kept : List ℕ)
     (p : Progress held files taken h f s kept) (line more kept' : List ℕ) → IsPlain line
-    → kept' ≡ kept_of (p.rest ++ line) → (h' : Known) (f' : Files) (s' : State) → CutReply kept' s f h s' f' h'
+    → kept' ≡ kept_of (p.rest ++ line) → (h' : Known) (f' : Stored) (s' : State) → CutReply kept' s f h s' f' h'
     → Broken held files (taken ++ (line ++ 10 ∷ more)) h' f'
 line-cut held files taken h f s kept p line more kept' plain k h' f' s' w = record {
   lines = p.lines;
@@ -100,8 +100,8 @@ line-cut held files taken h f s kept p line more kept' plain k h' f' s' w = reco
 }
 
 -- the last line is answered
-pub last-answered : (held : Known) (files : Files) (taken : List ℕ) (h : Known) (f : Files) (s : State) (kept : List ℕ)
-    (p : Progress held files taken h f s kept) (h' : Known) (f' : Files) (s' : State) → WroteReply kept s f h s' f' h'
+pub last-answered : (held : Known) (files : Stored) (taken : List ℕ) (h : Known) (f : Stored) (s : State) (kept : List ℕ)
+    (p : Progress held files taken h f s kept) (h' : Known) (f' : Stored) (s' : State) → WroteReply kept s f h s' f' h'
     → Answered files held (lines_of taken) f' h'
 last-answered held files taken h f s kept p h' f' s' w = record {
   answers = p.answers ++ w.answer ∷ [];
@@ -113,8 +113,8 @@ last-answered held files taken h f s kept p h' f' s' w = record {
 }
 
 -- the reply to the last line is cut off
-pub last-cut : (held : Known) (files : Files) (taken : List ℕ) (h : Known) (f : Files) (s : State) (kept : List ℕ)
-    (p : Progress held files taken h f s kept) (h' : Known) (f' : Files) (s' : State) → CutReply kept s f h s' f' h'
+pub last-cut : (held : Known) (files : Stored) (taken : List ℕ) (h : Known) (f : Stored) (s : State) (kept : List ℕ)
+    (p : Progress held files taken h f s kept) (h' : Known) (f' : Stored) (s' : State) → CutReply kept s f h s' f' h'
     → Broken held files taken h' f'
 last-cut held files taken h f s kept p h' f' s' w = record {
   lines = p.lines;
@@ -125,10 +125,10 @@ last-cut held files taken h f s kept p h' f' s' w = record {
 }
 
 -- a step of a piece: the line that ends next, gathered, and its reply
-pub line-fed : (held : Known) (files : Files) (taken piece : List ℕ) (at end : ℕ) (h : Known) (f : Files) (s : State) (kept : List ℕ)
+pub line-fed : (held : Known) (files : Stored) (taken piece : List ℕ) (at end : ℕ) (h : Known) (f : Stored) (s : State) (kept : List ℕ)
     → Progress held files (taken ++ take at piece) h f s kept → EndsLine piece at end
     → (t : State) (kept' : List ℕ) → t ≡ s → ((line : List ℕ) → kept ≡ kept_of line → kept' ≡ kept_of (line ++ slice_range piece at end))
-    → (h' : Known) (f' : Files) (s' : State) (none : List ℕ) → WroteReply kept' t f h s' f' h' → none ≡ []
+    → (h' : Known) (f' : Stored) (s' : State) (none : List ℕ) → WroteReply kept' t f h s' f' h' → none ≡ []
     → Progress held files (taken ++ take (end + 1) piece) h' f' s' none
 line-fed held files taken piece at end h f s kept p ends t kept' same gathers h' f' s' none w e =
     let wrote = subst (λ u. WroteReply kept' u f h s' f' h') same w in
@@ -138,10 +138,10 @@ line-fed held files taken piece at end h f s kept p ends t kept' same gathers h'
     (subst (λ bs. Progress held files ((taken ++ take at piece) ++ (slice_range piece at end ++ 10 ∷ [])) h' f' s' bs) (sym e) q)
 
 -- the same, where the reply is cut off
-pub line-fed-cut : (held : Known) (files : Files) (taken piece : List ℕ) (at end : ℕ) (h : Known) (f : Files) (s : State) (kept : List ℕ)
+pub line-fed-cut : (held : Known) (files : Stored) (taken piece : List ℕ) (at end : ℕ) (h : Known) (f : Stored) (s : State) (kept : List ℕ)
     → Progress held files (taken ++ take at piece) h f s kept → EndsLine piece at end
     → (t : State) (kept' : List ℕ) → t ≡ s → ((line : List ℕ) → kept ≡ kept_of line → kept' ≡ kept_of (line ++ slice_range piece at end))
-    → (h' : Known) (f' : Files) (s' : State) → CutReply kept' t f h s' f' h'
+    → (h' : Known) (f' : Stored) (s' : State) → CutReply kept' t f h s' f' h'
     → Broken held files (taken ++ piece) h' f'
 line-fed-cut held files taken piece at end h f s kept p ends t kept' same gathers h' f' s' w =
     let cut = subst (λ u. CutReply kept' u f h s' f' h') same w in
@@ -151,7 +151,7 @@ line-fed-cut held files taken piece at end h f s kept p ends t kept' same gather
     subst (λ bs. Broken held files bs h' f') all b
 
 -- the last step of a piece: what ends no line is gathered
-pub rest-fed : (held : Known) (files : Files) (taken piece : List ℕ) (at : ℕ) (h : Known) (f : Files) (s : State) (kept : List ℕ)
+pub rest-fed : (held : Known) (files : Stored) (taken piece : List ℕ) (at : ℕ) (h : Known) (f : Stored) (s : State) (kept : List ℕ)
     → Progress held files (taken ++ take at piece) h f s kept → IsPlain (drop at piece)
     → (t : State) (kept' : List ℕ) → t ≡ s → ((line : List ℕ) → kept ≡ kept_of line → kept' ≡ kept_of (line ++ drop at piece))
     → Progress held files (taken ++ piece) h f t kept'

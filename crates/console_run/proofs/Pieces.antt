@@ -5,7 +5,8 @@ use Rattle.std.proofs.lemmas.List.{take_all, take-append-drop, length-drop, leng
 use Rattle.std.proofs.lemmas.Bool.{eqb-true, false_from_ne_true}
 use Rattle.std.specs.List.{slice_range}
 use Rattle.memchr.specs.Find.{NoneBefore, Nowhere, Passes, is_byte}
-use Rattle.console_run.specs.Lines.{is_line_end, IsPlain, EndsLine}
+use Rattle.console_run.specs.Lines.{is_line_end, IsPlain}
+use Rattle.console_run.specs.Progress.{EndsLine}
 
 -- `&piece[at..]`
 pub slice_rest : (piece : List ℕ) (at : ℕ) → take (length piece - at) (drop at piece) ≡ drop at piece

@@ -4,14 +4,14 @@ use Rattle.std.specs.Prelude.{is_err}
 use Rattle.std.specs.Io.KnownBytes.{Consumes}
 use Rattle.std.proofs.KnownBytes.{Consumes-nil, Consumes-trans, Appends-nil}
 use Rattle.console_state.specs.State.{State, empty}
-use Rattle.console_state.specs.Step.{Files}
+use Rattle.leda_edge.specs.Stored.{Stored}
 use Rattle.console_run.specs.Answers.{Known}
 use Rattle.console_run.specs.Progress.{Progress, Pumped, ReadWhole, Broken}
 use Rattle.console_run.specs.Ends.{outside, EndsWriteFault, EndsTooLong}
 use Rattle.console_run.proofs.Advances.{begun}
 
 -- nothing was read
-pub pumped-start : (left : Known) (files : Files) (held : Known) (s : State) (kept : List ℕ) → s ≡ empty → kept ≡ []
+pub pumped-start : (left : Known) (files : Stored) (held : Known) (s : State) (kept : List ℕ) → s ≡ empty → kept ≡ []
     → Pumped left files held left files held 0 s kept
 pumped-start left files held s kept e k = record {
   taken = [];
@@ -32,8 +32,8 @@ when_err (Ok x) e h = cc
 when_err (Err x) e h = h
 
 -- one more piece was read and fed
-pub pumped-more : (left : Known) (files : Files) (held l1 : Known) (f1 : Files) (h1 : Known) (count : ℕ) (s : State) (kept : List ℕ)
-    (p : Pumped left files held l1 f1 h1 count s kept) (l2 : Known) (f2 : Files) (h2 : Known) (t : State) (kept' : List ℕ)
+pub pumped-more : (left : Known) (files : Stored) (held l1 : Known) (f1 : Stored) (h1 : Known) (count : ℕ) (s : State) (kept : List ℕ)
+    (p : Pumped left files held l1 f1 h1 count s kept) (l2 : Known) (f2 : Stored) (h2 : Known) (t : State) (kept' : List ℕ)
     (n : ℕ) (piece got : List ℕ) → Consumes l1 l2 got → got ≡ piece → length got ≡ n
     → Progress held files (p.taken ++ piece) h2 f2 t kept' → Pumped left files held l2 f2 h2 (count + n) t kept'
 pumped-more left files held l1 f1 h1 count s kept p l2 f2 h2 t kept' n piece got consumed same size progress = record {
@@ -44,8 +44,8 @@ pumped-more left files held l1 f1 h1 count s kept p l2 f2 h2 t kept' n piece got
 }
 
 -- a reply was cut off among the lines of a piece
-pub cut-ends : (left : Known) (files : Files) (held l1 : Known) (f1 : Files) (h1 : Known) (count : ℕ) (s : State) (kept : List ℕ)
-    (p : Pumped left files held l1 f1 h1 count s kept) (l2 : Known) (f2 : Files) (h2 : Known)
+pub cut-ends : (left : Known) (files : Stored) (held l1 : Known) (f1 : Stored) (h1 : Known) (count : ℕ) (s : State) (kept : List ℕ)
+    (p : Pumped left files held l1 f1 h1 count s kept) (l2 : Known) (f2 : Stored) (h2 : Known)
     (n : ℕ) (piece got : List ℕ) → Consumes l1 l2 got → got ≡ piece → length got ≡ n → count + n ≤ 1073741824
     → Broken held files (p.taken ++ piece) h2 f2 → EndsWriteFault (outside left files held) (outside l2 f2 h2)
 cut-ends left files held l1 f1 h1 count s kept p l2 f2 h2 n piece got consumed same size within b =
@@ -64,8 +64,8 @@ cut-ends left files held l1 f1 h1 count s kept p l2 f2 h2 n piece got consumed s
     }
 
 -- the reply to the last line was cut off
-pub last-cut-ends : (left : Known) (files : Files) (held l1 : Known) (f1 : Files) (h1 : Known) (s : State) (kept : List ℕ)
-    (w : ReadWhole left files held l1 f1 h1 s kept) (f2 : Files) (h2 : Known)
+pub last-cut-ends : (left : Known) (files : Stored) (held l1 : Known) (f1 : Stored) (h1 : Known) (s : State) (kept : List ℕ)
+    (w : ReadWhole left files held l1 f1 h1 s kept) (f2 : Stored) (h2 : Known)
     → Broken held files w.pumped.taken h2 f2 → EndsWriteFault (outside left files held) (outside l1 f2 h2)
 last-cut-ends left files held l1 f1 h1 s kept w f2 h2 b =
     let counted : length w.pumped.taken ≡ w.count = w.pumped.counted in
@@ -82,7 +82,7 @@ last-cut-ends left files held l1 f1 h1 s kept w f2 h2 b =
     }
 
 -- one read more gave a byte
-pub too-long : (left : Known) (files : Files) (held l1 : Known) (f1 : Files) (h1 : Known) (count : ℕ) (s : State) (kept : List ℕ)
+pub too-long : (left : Known) (files : Stored) (held l1 : Known) (f1 : Stored) (h1 : Known) (count : ℕ) (s : State) (kept : List ℕ)
     (p : Pumped left files held l1 f1 h1 count s kept) (l2 : Known) (more : List ℕ) → Consumes l1 l2 more
     → count ≡ 1073741824 → 0 < length more → EndsTooLong (outside left files held) (outside l2 f1 h1)
 too-long left files held l1 f1 h1 count s kept p l2 more consumed full beyond = record {

@@ -4,12 +4,12 @@ use Rattle.std.specs.Prelude.{Option}
 use Rattle.std.proofs.lemmas.Grind.{flat_map-append}
 use Rattle.reply_text.specs.declared.reply.Reply.{Reply}
 use Rattle.console_state.specs.State.{State}
-use Rattle.console_state.specs.Step.{Files}
+use Rattle.leda_edge.specs.Stored.{Stored}
 use Rattle.console_run.specs.Session.{LineStep, Session, answer_text, texts}
 
 -- one more line behind a session
-pub session-more : (s : State) (f : Files) (lines : List (List ℕ)) (answers : List (Option Reply)) (m : State) (g : Files)
-    (line : List ℕ) (answer : Option Reply) (s' : State) (f' : Files)
+pub session-more : (s : State) (f : Stored) (lines : List (List ℕ)) (answers : List (Option Reply)) (m : State) (g : Stored)
+    (line : List ℕ) (answer : Option Reply) (s' : State) (f' : Stored)
     → Session s f lines answers m g → LineStep m g line answer s' f'
     → Session s f (lines ++ line ∷ []) (answers ++ answer ∷ []) s' f'
 session-more s f [] answers m g line answer s' f' h step = record {

@@ -1,7 +1,7 @@
 -- How a run ends: what each status says of the script, the replies and the files.
 use Rattle.std.specs.Prelude.{◌≡◌, ℕ, ◌<◌, ◌≤◌, List, [], ◌∷◌, ◌++◌, length, ⊤}
 use Rattle.std.specs.Io.KnownBytes.{Consumes, IsAtEnd}
-use Rattle.console_state.specs.Step.{Files}
+use Rattle.leda_edge.specs.Stored.{Stored}
 use Rattle.console_run.specs.declared.top.Status.{Status}
 use Rattle.console_run.specs.declared.top.Status.TheVariants.{Done, Words, ReadFault, WriteFault, NoMemory, TooLong}
 use Rattle.console_run.specs.Lines.{lines_of}
@@ -10,10 +10,10 @@ use Rattle.console_run.specs.Answers.{Known, Answered, BrokeOff}
 -- the outside before a call and after it: the script's bytes that are left, the files, and the bytes written
 pub record Outside : Type 0 where
   pub left : Known
-  pub files : Files
+  pub files : Stored
   pub held : Known
 
-abbrev pub outside : Known → Files → Known → Outside
+abbrev pub outside : Known → Stored → Known → Outside
 outside left files held = record { left = left; files = files; held = held }
 
 -- the script was read to its end, and every line is answered
@@ -67,11 +67,11 @@ Ends WriteFault old new = EndsWriteFault old new
 Ends NoMemory old new = new ≡ old
 Ends TooLong old new = EndsTooLong old new
 
--- the statuses of a script that wasn't read to its end
-abbrev pub IsEarly : Status → Type 0
-IsEarly Done = ⊥
-IsEarly Words = ⊥
-IsEarly ReadFault = ⊤
-IsEarly WriteFault = ⊤
-IsEarly NoMemory = ⊥
-IsEarly TooLong = ⊤
+-- the statuses of a run that didn't begin
+abbrev pub IsUnbegun : Status → Type 0
+IsUnbegun Done = ⊥
+IsUnbegun Words = ⊤
+IsUnbegun ReadFault = ⊥
+IsUnbegun WriteFault = ⊥
+IsUnbegun NoMemory = ⊤
+IsUnbegun TooLong = ⊥

@@ -14,11 +14,3 @@ lines_of script = slice_split is_line_end script
 -- bytes that end no line
 abbrev pub IsPlain : List ℕ → Type 0
 IsPlain bytes = All (λ byte. is_line_end byte ≡ false) bytes
-
--- behind the place `at` of a piece, the first line end stands at the place `end`
-pub record EndsLine (piece : List ℕ) (at end : ℕ) : Type 0 where
-  pub order : at ≤ end
-  pub within : end < length piece
-  pub plain : IsPlain (slice_range piece at end)
-  pub taken : take (end + 1) piece ≡ take at piece ++ (slice_range piece at end ++ 10 ∷ [])
-  pub whole : piece ≡ take at piece ++ (slice_range piece at end ++ 10 ∷ drop (end + 1) piece)

@@ -1,29 +1,48 @@
--- What holds between two bytes of a script.
-use Rattle.std.specs.Prelude.{◌≡◌, ℕ, ◌<◌, ◌≤◌, List, [], ◌∷◌, ◌++◌, length, take, Option, Some}
+-- Private: what the functions that read a script and write its replies keep.
+use Rattle.std.specs.Prelude.{◌≡◌, ℕ, ◌+◌, ◌<◌, ◌≤◌, List, [], ◌∷◌, ◌++◌, length, take, drop, Option, Some, ⊤}
+use Rattle.std.specs.List.{slice_range}
 use Rattle.std.specs.Io.KnownBytes.{Appends, Consumes, IsAtEnd}
+use Rattle.script_text.specs.Said.{Said}
 use Rattle.script_text.specs.Line.{kept_of}
 use Rattle.reply_text.specs.declared.reply.Reply.{Reply}
 use Rattle.reply_text.specs.Text.{reply_text}
 use Rattle.console_state.specs.State.{State, empty}
-use Rattle.console_state.specs.Step.{Files}
-use Rattle.console_run.specs.Lines.{lines_of}
+use Rattle.console_state.specs.Step.{Step}
+use Rattle.leda_edge.specs.Stored.{Stored}
+use Rattle.console_run.specs.declared.top.Status.{Status}
+use Rattle.console_run.specs.declared.top.Status.TheVariants.{Done, Words, ReadFault, WriteFault, NoMemory, TooLong}
+use Rattle.console_run.specs.Lines.{lines_of, IsPlain}
 use Rattle.console_run.specs.Session.{LineStep, Session, answer_text, texts}
 use Rattle.console_run.specs.Answers.{Known, BrokeOff}
 
+-- behind the place `at` of a piece, the first line end stands at the place `end`
+pub record EndsLine (piece : List ℕ) (at end : ℕ) : Type 0 where
+  pub order : at ≤ end
+  pub within : end < length piece
+  pub plain : IsPlain (slice_range piece at end)
+  pub taken : take (end + 1) piece ≡ take at piece ++ (slice_range piece at end ++ 10 ∷ [])
+  pub whole : piece ≡ take at piece ++ (slice_range piece at end ++ 10 ∷ drop (end + 1) piece)
+
+-- the command was run, and this is the text of its reply
+pub record RanCommand (said : Said) (s : State) (f : Stored) (text : List ℕ) (s' : State) (f' : Stored) : Type 0 where
+  pub reply : Reply
+  pub step : Step s f said reply s' f'
+  pub text_is : text ≡ reply_text reply
+
 -- the line was run, and this is the text of its reply
-pub record RanLine (line : List ℕ) (s : State) (f : Files) (text : List ℕ) (s' : State) (f' : Files) : Type 0 where
+pub record RanLine (line : List ℕ) (s : State) (f : Stored) (text : List ℕ) (s' : State) (f' : Stored) : Type 0 where
   pub answer : Option Reply
   pub step : LineStep s f line answer s' f'
   pub text_is : text ≡ answer_text answer
 
 -- the line was run, and its reply written
-pub record WroteReply (line : List ℕ) (s : State) (f : Files) (h : Known) (s' : State) (f' : Files) (h' : Known) : Type 0 where
+pub record WroteReply (line : List ℕ) (s : State) (f : Stored) (h : Known) (s' : State) (f' : Stored) (h' : Known) : Type 0 where
   pub answer : Option Reply
   pub step : LineStep s f line answer s' f'
   pub written : Appends h h' (answer_text answer)
 
 -- the line was run, and its reply not written whole
-pub record CutReply (line : List ℕ) (s : State) (f : Files) (h : Known) (s' : State) (f' : Files) (h' : Known) : Type 0 where
+pub record CutReply (line : List ℕ) (s : State) (f : Stored) (h : Known) (s' : State) (f' : Stored) (h' : Known) : Type 0 where
   pub reply : Reply
   pub step : LineStep s f line (Some reply) s' f'
   pub count : ℕ
@@ -31,8 +50,8 @@ pub record CutReply (line : List ℕ) (s : State) (f : Files) (h : Known) (s' : 
   pub written : Appends h h' (take count (reply_text reply))
 
 -- of the bytes taken, the lines that an LF ended are answered, and what tells the meaning of the rest is kept
-pub record Progress (held : Known) (files : Files) (taken : List ℕ)
-    (now_held : Known) (now_files : Files) (state : State) (kept : List ℕ) : Type 0 where
+pub record Progress (held : Known) (files : Stored) (taken : List ℕ)
+    (now_held : Known) (now_files : Stored) (state : State) (kept : List ℕ) : Type 0 where
   pub lines : List (List ℕ)
   pub rest : List ℕ
   pub answers : List (Option Reply)
@@ -42,7 +61,7 @@ pub record Progress (held : Known) (files : Files) (taken : List ℕ)
   pub kept_is : kept ≡ kept_of rest
 
 -- bytes were taken, so many, and the run has got as far as they go
-pub record Pumped (left : Known) (files : Files) (held : Known) (now_left : Known) (now_files : Files) (now_held : Known)
+pub record Pumped (left : Known) (files : Stored) (held : Known) (now_left : Known) (now_files : Stored) (now_held : Known)
     (count : ℕ) (state : State) (kept : List ℕ) : Type 0 where
   pub taken : List ℕ
   pub consumed : Consumes left now_left taken
@@ -50,7 +69,7 @@ pub record Pumped (left : Known) (files : Files) (held : Known) (now_left : Know
   pub progress : Progress held files taken now_held now_files state kept
 
 -- the script was read to its end, and what is kept of the last line is still to be answered
-pub record ReadWhole (left : Known) (files : Files) (held : Known) (now_left : Known) (now_files : Files) (now_held : Known)
+pub record ReadWhole (left : Known) (files : Stored) (held : Known) (now_left : Known) (now_files : Stored) (now_held : Known)
     (state : State) (kept : List ℕ) : Type 0 where
   pub count : ℕ
   pub within : count ≤ 1073741824
@@ -58,9 +77,18 @@ pub record ReadWhole (left : Known) (files : Files) (held : Known) (now_left : K
   pub at_end : IsAtEnd now_left
 
 -- of the bytes taken, some first lines are answered, and the reply to the next one is cut off
-pub record Broken (held : Known) (files : Files) (taken : List ℕ) (now_held : Known) (now_files : Files) : Type 0 where
+pub record Broken (held : Known) (files : Stored) (taken : List ℕ) (now_held : Known) (now_files : Stored) : Type 0 where
   pub lines : List (List ℕ)
   pub line : List ℕ
   pub later : List (List ℕ)
   pub split : lines_of taken ≡ lines ++ line ∷ later
   pub broke : BrokeOff files held lines line now_files now_held
+
+-- the statuses of a script that wasn't read to its end
+abbrev pub IsEarly : Status → Type 0
+IsEarly Done = ⊥
+IsEarly Words = ⊥
+IsEarly ReadFault = ⊤
+IsEarly WriteFault = ⊤
+IsEarly NoMemory = ⊥
+IsEarly TooLong = ⊤

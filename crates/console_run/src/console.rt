@@ -1,22 +1,25 @@
-ghost use Rattle.std.specs.Prelude.{◌⊎◌, Some, ◌≡◌, ℕ, ◌+◌, ◌≤◌, ◌<◌, List, [], ◌++◌, length, drop, vec_len, vec_capacity, IfSome, IfNone, IfOk, OnOk, OnErr};
+//! A session with the buffers of its script and its replies.
+ghost use Rattle.std.specs.Prelude.{◌≡◌, ℕ, ◌+◌, ◌≤◌, ◌<◌, List, [], ◌++◌, length, drop, vec_len, vec_capacity, IfSome, IfNone, IfOk, OnOk, OnErr};
+ghost use Rattle.std.specs.Bool.{MatchBool, OnFalse};
 ghost use Rattle.leda_edge.specs.Causes.{HasCause};
 ghost use Rattle.leda_edge.specs.Parts.{StaysTold};
+ghost use Rattle.leda_edge.specs.Stored.{Stored, stored, StaysStored};
 ghost use Rattle.script_text.specs.Line.{kept_of};
+ghost use Rattle.script_text.specs.Table.{IsWhole};
 ghost use Rattle.reply_text.specs.Text.{reply_text, IsNamed, IsShort};
 ghost use Rattle.reply_text.specs.declared.reply.Reply.TheVariants.{Refused};
-ghost use Rattle.reply_text.specs.declared.reply.Refusal.TheVariants.{Memory};
+ghost use Rattle.reply_text.specs.declared.refusal.Refusal.TheVariants.{Memory};
 ghost use Rattle.console_state.specs.State.{empty};
-ghost use Rattle.console_state.specs.Step.{Files};
-ghost use Rattle.console_run.specs.Session.{LineStep, refusal_of};
+ghost use Rattle.console_run.specs.Session.{refusal_of};
 ghost use Rattle.console_run.specs.Answers.{Known, Answered};
-ghost use Rattle.console_run.specs.Lines.{lines_of, IsPlain, EndsLine};
-ghost use Rattle.console_run.specs.Progress.{RanLine, WroteReply, CutReply, Progress, Broken};
+ghost use Rattle.console_run.specs.Lines.{lines_of, IsPlain};
+ghost use Rattle.console_run.specs.Progress.{EndsLine, RanCommand, RanLine, WroteReply, CutReply, Progress, Broken};
 
 use console_state::Session;
 use leda_edge::{Failed, Sink, Store, put_all};
 use memchr::memchr;
 use reply_text::{Refusal, Reply, put_reply};
-use script_text::{LINE_LIMIT, Line, LineRefusal, parse_line};
+use script_text::{Command, LINE_LIMIT, Line, LineRefusal, parse_line};
 use std::alloc::{AllocError, Global};
 
 /// How many bytes of an unfinished line are kept: one more than a line may have, which tells that it is too long.
@@ -53,33 +56,37 @@ impl Console {
         })
     }
 
-    /// Runs the line in the buffer.
-    fn reply_to_line<F: Store>(&mut self, files: &mut F) -> Option<Reply>
-        ensures step { LineStep self.old.session (F.files files.old) self.old.line.items result
-            self.new.session (F.files files.new) }
-        ensures named { IfSome result IsNamed }
-        // A reply of any length may be want of memory in its place, since nothing has changed.
-        ensures quiet { IfSome result (λ reply. IsShort reply ⊎ LineStep self.old.session (F.files files.old) self.old.line.items
-            (Some (Refused Memory)) self.new.session (F.files files.new)) }
-        ensures store { files.new ≡ files.old }
+    /// Runs a command, and leaves the text of its reply in the empty buffer.
+    fn run_command<F: Store>(&mut self, command: Command, files: &mut F)
+        requires whole { IsWhole command }
+        requires empty { self.old.reply.items ≡ [] }
+        ensures ran { RanCommand command
+            self.old.session (stored (F.files files.old) (F.faults files.old)) self.new.reply.items
+            self.new.session (stored (F.files files.new) (F.faults files.new)) }
+        ensures store { StaysStored (stored (F.files files.old) (F.faults files.old))
+            (stored (F.files files.new) (F.faults files.new)) }
     {
-        match parse_line(self.alloc, self.line.as_slice()) {
-            Ok(Line::Nothing) => None,
-            Ok(Line::Command(command)) => Some(self.session.apply(&command, files)),
-            Err(fault) => Some(Reply::Refused(refusal_of(fault))),
+        let reply = self.session.apply(&command, files);
+        if put_text(&mut self.reply, &reply) {
+            self.session.keep(command, reply);
         }
     }
 
     /// Runs the line in the buffer, and leaves the text of its reply in the other.
     fn run_line<F: Store>(&mut self, files: &mut F)
-        ensures ran { RanLine self.old.line.items self.old.session (F.files files.old)
-            self.new.reply.items self.new.session (F.files files.new) }
-        ensures store { files.new ≡ files.old }
+        ensures ran { RanLine self.old.line.items
+            self.old.session (stored (F.files files.old) (F.faults files.old)) self.new.reply.items
+            self.new.session (stored (F.files files.new) (F.faults files.new)) }
+        ensures store { StaysStored (stored (F.files files.old) (F.faults files.old))
+            (stored (F.files files.new) (F.faults files.new)) }
     {
-        let answer = self.reply_to_line(files);
         self.reply.clear();
-        if let Some(reply) = answer {
-            put_text(&mut self.reply, &reply);
+        match parse_line(self.alloc, self.line.as_slice()) {
+            Ok(Line::Nothing) => {}
+            Ok(Line::Command(command)) => self.run_command(command, files),
+            Err(fault) => {
+                put_text(&mut self.reply, &Reply::Refused(refusal_of(fault)));
+            }
         }
     }
 
@@ -90,13 +97,16 @@ impl Console {
         out: &mut K,
     ) -> Result<(), Failed>
         ensures empty { self.new.line.items ≡ [] }
-        ensures ok { OnOk result (WroteReply self.old.line.items self.old.session (F.files files.old) (K.held out.old)
-            self.new.session (F.files files.new) (K.held out.new)) }
-        ensures err { OnErr result (CutReply self.old.line.items self.old.session (F.files files.old) (K.held out.old)
-            self.new.session (F.files files.new) (K.held out.new)) }
+        ensures ok { OnOk result (WroteReply self.old.line.items
+            self.old.session (stored (F.files files.old) (F.faults files.old)) (K.held out.old)
+            self.new.session (stored (F.files files.new) (F.faults files.new)) (K.held out.new)) }
+        ensures err { OnErr result (CutReply self.old.line.items
+            self.old.session (stored (F.files files.old) (F.faults files.old)) (K.held out.old)
+            self.new.session (stored (F.files files.new) (F.faults files.new)) (K.held out.new)) }
         ensures told { StaysTold (K.held out.old) (K.held out.new) }
         ensures cause { HasCause (K.faults out.old) (K.faults out.new) result }
-        ensures store { files.new ≡ files.old }
+        ensures store { StaysStored (stored (F.files files.old) (F.faults files.old))
+            (stored (F.files files.new) (F.faults files.new)) }
     {
         self.run_line(files);
         self.line.clear();
@@ -120,16 +130,18 @@ impl Console {
         out: &mut K,
         piece: &[u8],
     ) -> Result<(), Failed>
-        ensures ok { (held : Known) (before : Files) (taken : List ℕ)
-            → Progress held before taken (K.held out.old) (F.files files.old) self.old.session self.old.line.items
+        ensures ok { (held : Known) (before : Stored) (taken : List ℕ) → Progress held before taken
+            (K.held out.old) (stored (F.files files.old) (F.faults files.old)) self.old.session self.old.line.items
             → OnOk result (Progress held before (taken ++ piece.now)
-            (K.held out.new) (F.files files.new) self.new.session self.new.line.items) }
-        ensures err { (held : Known) (before : Files) (taken : List ℕ)
-            → Progress held before taken (K.held out.old) (F.files files.old) self.old.session self.old.line.items
-            → OnErr result (Broken held before (taken ++ piece.now) (K.held out.new) (F.files files.new)) }
+            (K.held out.new) (stored (F.files files.new) (F.faults files.new)) self.new.session self.new.line.items) }
+        ensures err { (held : Known) (before : Stored) (taken : List ℕ) → Progress held before taken
+            (K.held out.old) (stored (F.files files.old) (F.faults files.old)) self.old.session self.old.line.items
+            → OnErr result (Broken held before (taken ++ piece.now)
+            (K.held out.new) (stored (F.files files.new) (F.faults files.new))) }
         ensures told { StaysTold (K.held out.old) (K.held out.new) }
         ensures cause { HasCause (K.faults out.old) (K.faults out.new) result }
-        ensures store { files.new ≡ files.old }
+        ensures store { StaysStored (stored (F.files files.old) (F.faults files.old))
+            (stored (F.files files.new) (F.faults files.new)) }
     {
         let mut at = 0;
         while let Some(end) = line_end(piece, at) {
@@ -147,33 +159,41 @@ impl Console {
         files: &mut F,
         out: &mut K,
     ) -> Result<(), Failed>
-        ensures ok { (held : Known) (before : Files) (taken : List ℕ)
-            → Progress held before taken (K.held out.old) (F.files files.old) self.old.session self.old.line.items
-            → OnOk result (Answered before held (lines_of taken) (F.files files.new) (K.held out.new)) }
-        ensures err { (held : Known) (before : Files) (taken : List ℕ)
-            → Progress held before taken (K.held out.old) (F.files files.old) self.old.session self.old.line.items
-            → OnErr result (Broken held before taken (K.held out.new) (F.files files.new)) }
+        ensures ok { (held : Known) (before : Stored) (taken : List ℕ) → Progress held before taken
+            (K.held out.old) (stored (F.files files.old) (F.faults files.old)) self.old.session self.old.line.items
+            → OnOk result (Answered before held (lines_of taken)
+            (stored (F.files files.new) (F.faults files.new)) (K.held out.new)) }
+        ensures err { (held : Known) (before : Stored) (taken : List ℕ) → Progress held before taken
+            (K.held out.old) (stored (F.files files.old) (F.faults files.old)) self.old.session self.old.line.items
+            → OnErr result (Broken held before taken
+            (K.held out.new) (stored (F.files files.new) (F.faults files.new))) }
         ensures told { StaysTold (K.held out.old) (K.held out.new) }
         ensures cause { HasCause (K.faults out.old) (K.faults out.new) result }
-        ensures store { files.new ≡ files.old }
+        ensures store { StaysStored (stored (F.files files.old) (F.faults files.old))
+            (stored (F.files files.new) (F.faults files.new)) }
     {
         self.end_line(files, out)
     }
 }
 
 /// Puts the text of a reply into an empty buffer, or that of want of memory where a long reply finds none.
-fn put_text(to: &mut Vec<u8>, reply: &Reply)
+///
+/// Whether it is the text of the reply.
+fn put_text(to: &mut Vec<u8>, reply: &Reply) -> bool
     requires empty { to.old.items ≡ [] }
     requires room { 256 ≤ vec_capacity to.old }
     requires named { IsNamed reply.now }
-    ensures text { (to.new.items ≡ reply_text reply.now)
-        ⊎ ((IsShort reply.now → ⊥) × (to.new.items ≡ reply_text (Refused Memory))) }
+    ensures text { MatchBool result (to.new.items ≡ reply_text reply.now)
+        (to.new.items ≡ reply_text (Refused Memory)) }
+    ensures long { OnFalse result (IsShort reply.now → ⊥) }
     ensures capacity { vec_capacity to.old ≤ vec_capacity to.new }
 {
-    if put_reply(to, reply).is_err() {
-        // The buffer has room for this one.
-        let _ = put_reply(to, &Reply::Refused(Refusal::Memory));
+    if put_reply(to, reply).is_ok() {
+        return true;
     }
+    // The buffer has room for this one.
+    let _ = put_reply(to, &Reply::Refused(Refusal::Memory));
+    false
 }
 
 /// The place of the first line end from the place `at` on.
@@ -193,6 +213,7 @@ fn refusal_of(fault: LineRefusal) -> Refusal
     match fault {
         LineRefusal::LongLine => Refusal::LongLine,
         LineRefusal::Syntax(column) => Refusal::Syntax(column),
+        LineRefusal::Number(column) => Refusal::Number(column),
         LineRefusal::NoMemory => Refusal::Memory,
     }
 }

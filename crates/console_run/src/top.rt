@@ -1,9 +1,11 @@
+//! The top call: a script is read from a source, and its replies are written to a sink.
 ghost use Rattle.std.specs.Prelude.{◌≡◌, ◌≢◌, ◌<◌, ◌≤◌, ◌↔◌, [], length, OnOk, IfErr};
 ghost use Rattle.leda_edge.specs.Causes.{Rose};
 ghost use Rattle.leda_edge.specs.Parts.{StaysTold};
+ghost use Rattle.leda_edge.specs.Stored.{stored, StaysStored};
 ghost use Rattle.console_state.specs.State.{empty};
-ghost use Rattle.console_run.specs.Progress.{ReadWhole};
-ghost use Rattle.console_run.specs.Ends.{Ends, IsEarly, outside};
+ghost use Rattle.console_run.specs.Progress.{ReadWhole, IsEarly};
+ghost use Rattle.console_run.specs.Ends.{Ends, IsUnbegun, outside};
 
 use crate::console::Console;
 use leda_edge::{Failed, Sink, Source, Store};
@@ -44,8 +46,12 @@ pub fn run<S: Source, F: Store, K: Sink>(
 ) -> Status
     requires { 0 < length words.now }
     // What was read, what was written and what the files hold.
-    ensures ends { Ends result (outside (S.left script.old) (F.files files.old) (K.held out.old))
-        (outside (S.left script.new) (F.files files.new) (K.held out.new)) }
+    ensures ends { Ends result
+        (outside (S.left script.old) (stored (F.files files.old) (F.faults files.old)) (K.held out.old))
+        (outside (S.left script.new) (stored (F.files files.new) (F.faults files.new)) (K.held out.new)) }
+    // A run that doesn't begin touches nothing, whether it is told or not.
+    ensures unbegun { IsUnbegun result
+        → (script.new ≡ script.old) × (files.new ≡ files.old) × (out.new ≡ out.old) }
     ensures words { (result ≡ Status.Words) ↔ (1 < length words.now) }
     ensures read { result ≡ Status.ReadFault → Rose (S.faults script.old) (S.faults script.new) }
     ensures write { result ≡ Status.WriteFault → Rose (K.faults out.old) (K.faults out.new) }
@@ -53,7 +59,8 @@ pub fn run<S: Source, F: Store, K: Sink>(
     ensures writes { K.faults out.old ≤ K.faults out.new }
     ensures left { StaysTold (S.left script.old) (S.left script.new) }
     ensures held { StaysTold (K.held out.old) (K.held out.new) }
-    ensures store { files.new ≡ files.old }
+    ensures store { StaysStored (stored (F.files files.old) (F.faults files.old))
+        (stored (F.files files.new) (F.faults files.new)) }
 {
     if words.len() > 1 {
         return Status::Words;
@@ -78,17 +85,19 @@ fn pump<S: Source, F: Store, K: Sink>(
     requires room { 0 < length room.old }
     requires session { console.old.session ≡ empty }
     requires line { console.old.line.items ≡ [] }
-    ensures ends { Ends result (outside (S.left script.old) (F.files files.old) (K.held out.old))
-        (outside (S.left script.new) (F.files files.new) (K.held out.new)) }
+    ensures ends { Ends result
+        (outside (S.left script.old) (stored (F.files files.old) (F.faults files.old)) (K.held out.old))
+        (outside (S.left script.new) (stored (F.files files.new) (F.faults files.new)) (K.held out.new)) }
     ensures words { result ≢ Status.Words }
-    ensures memory { result ≢ Status.NoMemory }
+    ensures begun { IsUnbegun result → ⊥ }
     ensures read { result ≡ Status.ReadFault → Rose (S.faults script.old) (S.faults script.new) }
     ensures write { result ≡ Status.WriteFault → Rose (K.faults out.old) (K.faults out.new) }
     ensures reads { S.faults script.old ≤ S.faults script.new }
     ensures writes { K.faults out.old ≤ K.faults out.new }
     ensures left { StaysTold (S.left script.old) (S.left script.new) }
     ensures held { StaysTold (K.held out.old) (K.held out.new) }
-    ensures store { files.new ≡ files.old }
+    ensures store { StaysStored (stored (F.files files.old) (F.faults files.old))
+        (stored (F.files files.new) (F.faults files.new)) }
 {
     if let Err(status) = read_script(console, script, files, out, room) {
         return status;
@@ -113,11 +122,14 @@ fn read_script<S: Source, F: Store, K: Sink>(
     requires room { 0 < length room.old }
     requires session { console.old.session ≡ empty }
     requires line { console.old.line.items ≡ [] }
-    ensures whole { OnOk result (ReadWhole (S.left script.old) (F.files files.old) (K.held out.old)
-        (S.left script.new) (F.files files.new) (K.held out.new) console.new.session console.new.line.items) }
+    ensures whole { OnOk result (ReadWhole
+        (S.left script.old) (stored (F.files files.old) (F.faults files.old)) (K.held out.old)
+        (S.left script.new) (stored (F.files files.new) (F.faults files.new)) (K.held out.new)
+        console.new.session console.new.line.items) }
     ensures ends { IfErr result (λ status.
-        Ends status (outside (S.left script.old) (F.files files.old) (K.held out.old))
-        (outside (S.left script.new) (F.files files.new) (K.held out.new))) }
+        Ends status
+        (outside (S.left script.old) (stored (F.files files.old) (F.faults files.old)) (K.held out.old))
+        (outside (S.left script.new) (stored (F.files files.new) (F.faults files.new)) (K.held out.new))) }
     ensures early { IfErr result IsEarly }
     ensures read { IfErr result (λ status. status ≡ Status.ReadFault → Rose (S.faults script.old) (S.faults script.new)) }
     ensures write { IfErr result (λ status. status ≡ Status.WriteFault → Rose (K.faults out.old) (K.faults out.new)) }
@@ -125,7 +137,8 @@ fn read_script<S: Source, F: Store, K: Sink>(
     ensures writes { K.faults out.old ≤ K.faults out.new }
     ensures left { StaysTold (S.left script.old) (S.left script.new) }
     ensures held { StaysTold (K.held out.old) (K.held out.new) }
-    ensures store { files.new ≡ files.old }
+    ensures store { StaysStored (stored (F.files files.old) (F.faults files.old))
+        (stored (F.files files.new) (F.faults files.new)) }
 {
     let mut taken = 0;
     while taken < SCRIPT_LIMIT {
