@@ -1,6 +1,6 @@
 -- The lines of a script.
-use Rattle.std.specs.Prelude.{◌≡◌, ℕ, ◌+◌, ◌<◌, ◌≤◌, Bool, false, ◌==◌, List, [], ◌∷◌, ◌++◌, length, take, drop}
-use Rattle.std.specs.List.{All, slice_split, slice_range}
+use Rattle.std.specs.Prelude.{◌≡◌, ℕ, Bool, false, ◌==◌, List}
+use Rattle.std.specs.List.{All, slice_split}
 
 -- the byte that ends a line
 abbrev pub is_line_end : ℕ → Bool

@@ -1,4 +1,4 @@
-use Rattle.std.proofs.Common.{◌≡◌, ℕ, ◌-◌, ◌≤◌, List, ◌++◌, length, take}
+use Rattle.std.proofs.Common.{ℕ, ◌-◌, ◌≤◌, List, ◌++◌, length, take}
 use Rattle.leda_edge.specs.Parts.{StaysTold}
 use Rattle.leda_edge.specs.Stored.{Stored, stored, StaysStored}
 use Rattle.console_run.specs.Answers.{Known}

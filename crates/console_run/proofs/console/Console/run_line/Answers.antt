@@ -1,4 +1,3 @@
-use Rattle.std.proofs.Common.{subst}
 use Rattle.console_run.proofs.Lacking.{ran-command, not-run, own-text}
 use Rattle.reply_text.specs.declared.reply.Reply.TheVariants.{Refused}
 use Rattle.console_run.proofs.console.Console.run_line.Goals as goal
