@@ -19,13 +19,15 @@ use Rattle.console_run.proofs.Splits.{split-append, lines-ended, lines-unended}
 use Rattle.console_run.proofs.Steps.{session-more, texts-more}
 
 -- what is kept of a line is run as the line
-of_line : (s : State) (f : Stored) (kept line : List ℕ) (answer : Option Reply) (s' : State) (f' : Stored)
+of_line : (s : State) (f : Stored) (kept line : List ℕ) (answer : Option Reply) (s' : State)
+    (f' : Stored)
     → kept ≡ kept_of line → LineStep s f kept answer s' f' → LineStep s f line answer s' f'
 of_line s f kept line answer s' f' e step =
     subst (λ m. Meets m s f answer s' f') (ap line_of e ∙ line_of-kept line) step
 
 -- nothing taken, nothing done
-pub begun : (held : Known) (files : Stored) → Appends held held [] → Progress held files [] held files empty []
+pub begun : (held : Known) (files : Stored) → Appends held held []
+    → Progress held files [] held files empty []
 begun held files none = record {
   lines = [];
   rest = [];
@@ -37,23 +39,27 @@ begun held files none = record {
 }
 
 -- bytes that end no line
-pub plain-bytes : (held : Known) (files : Stored) (taken : List ℕ) (h : Known) (f : Stored) (s : State) (kept : List ℕ)
+pub plain-bytes : (held : Known) (files : Stored) (taken : List ℕ) (h : Known) (f : Stored)
+    (s : State) (kept : List ℕ)
     (p : Progress held files taken h f s kept) (bytes kept' : List ℕ) → IsPlain bytes
     → kept' ≡ kept_of (p.rest ++ bytes) → Progress held files (taken ++ bytes) h f s kept'
 plain-bytes held files taken h f s kept p bytes kept' plain k = record {
   lines = p.lines;
   rest = p.rest ++ bytes;
   answers = p.answers;
-  split = split-append is_line_end taken bytes p.lines p.rest bytes [] p.split (lines-unended bytes plain);
+  split = split-append is_line_end taken bytes p.lines p.rest bytes [] p.split
+      (lines-unended bytes plain);
   session = p.session;
   written = p.written;
   kept_is = k;
 }
 
 -- a line that ends, and its reply
-pub line-answered : (held : Known) (files : Stored) (taken : List ℕ) (h : Known) (f : Stored) (s : State) (kept : List ℕ)
+pub line-answered : (held : Known) (files : Stored) (taken : List ℕ) (h : Known) (f : Stored)
+    (s : State) (kept : List ℕ)
     (p : Progress held files taken h f s kept) (line kept' : List ℕ) → IsPlain line
-    → kept' ≡ kept_of (p.rest ++ line) → (h' : Known) (f' : Stored) (s' : State) → WroteReply kept' s f h s' f' h'
+    → kept' ≡ kept_of (p.rest ++ line) → (h' : Known) (f' : Stored) (s' : State)
+    → WroteReply kept' s f h s' f' h'
     → Progress held files (taken ++ (line ++ 10 ∷ [])) h' f' s' []
 line-answered held files taken h f s kept p line kept' plain k h' f' s' w =
     let whole = p.rest ++ line in
@@ -61,18 +67,22 @@ line-answered held files taken h f s kept p line kept' plain k h' f' s' w =
       lines = p.lines ++ whole ∷ [];
       rest = [];
       answers = p.answers ++ w.answer ∷ [];
-      split = split-append is_line_end taken (line ++ 10 ∷ []) p.lines p.rest line ([] ∷ []) p.split (lines-ended line [] plain)
+      split = split-append is_line_end taken (line ++ 10 ∷ []) p.lines p.rest line
+          ([] ∷ []) p.split (lines-ended line [] plain)
           ∙ sym (append_assoc p.lines (whole ∷ []) ([] ∷ []));
-      session = session-more empty files p.lines p.answers s f whole w.answer s' f' p.session (of_line s f kept' whole w.answer s' f' k w.step);
+      session = session-more empty files p.lines p.answers s f whole w.answer s' f' p.session
+          (of_line s f kept' whole w.answer s' f' k w.step);
       written = subst (λ t. Appends held h' t) (texts-more p.answers w.answer)
           (Appends-trans held h h' (texts p.answers) (answer_text w.answer) p.written w.written);
       kept_is = sym (take-nil kept_most);
     }
 
 -- a line whose reply is cut off
-cut_off : (held : Known) (files : Stored) (taken : List ℕ) (h : Known) (f : Stored) (s : State) (kept : List ℕ)
+cut_off : (held : Known) (files : Stored) (taken : List ℕ) (h : Known) (f : Stored) (s : State)
+    (kept : List ℕ)
     (p : Progress held files taken h f s kept) (line kept' : List ℕ) → kept' ≡ kept_of line
-    → (h' : Known) (f' : Stored) (s' : State) → CutReply kept' s f h s' f' h' → BrokeOff files held p.lines line f' h'
+    → (h' : Known) (f' : Stored) (s' : State) → CutReply kept' s f h s' f' h'
+    → BrokeOff files held p.lines line f' h'
 cut_off held files taken h f s kept p line kept' k h' f' s' w = record {
   answers = p.answers;
   state = s;
@@ -87,34 +97,42 @@ cut_off held files taken h f s kept p line kept' k h' f' s' w = record {
 }
 
 -- the reply to a line is cut off, which ended before more bytes that were taken
-pub line-cut : (held : Known) (files : Stored) (taken : List ℕ) (h : Known) (f : Stored) (s : State) (kept : List ℕ)
+pub line-cut : (held : Known) (files : Stored) (taken : List ℕ) (h : Known) (f : Stored)
+    (s : State) (kept : List ℕ)
     (p : Progress held files taken h f s kept) (line more kept' : List ℕ) → IsPlain line
-    → kept' ≡ kept_of (p.rest ++ line) → (h' : Known) (f' : Stored) (s' : State) → CutReply kept' s f h s' f' h'
+    → kept' ≡ kept_of (p.rest ++ line) → (h' : Known) (f' : Stored) (s' : State)
+    → CutReply kept' s f h s' f' h'
     → Broken held files (taken ++ (line ++ 10 ∷ more)) h' f'
 line-cut held files taken h f s kept p line more kept' plain k h' f' s' w = record {
   lines = p.lines;
   line = p.rest ++ line;
   later = lines_of more;
-  split = split-append is_line_end taken (line ++ 10 ∷ more) p.lines p.rest line (lines_of more) p.split (lines-ended line more plain);
+  split = split-append is_line_end taken (line ++ 10 ∷ more) p.lines p.rest line
+      (lines_of more) p.split (lines-ended line more plain);
   broke = cut_off held files taken h f s kept p (p.rest ++ line) kept' k h' f' s' w;
 }
 
 -- the last line is answered
-pub last-answered : (held : Known) (files : Stored) (taken : List ℕ) (h : Known) (f : Stored) (s : State) (kept : List ℕ)
-    (p : Progress held files taken h f s kept) (h' : Known) (f' : Stored) (s' : State) → WroteReply kept s f h s' f' h'
+pub last-answered : (held : Known) (files : Stored) (taken : List ℕ) (h : Known) (f : Stored)
+    (s : State) (kept : List ℕ)
+    (p : Progress held files taken h f s kept) (h' : Known) (f' : Stored) (s' : State)
+    → WroteReply kept s f h s' f' h'
     → Answered files held (lines_of taken) f' h'
 last-answered held files taken h f s kept p h' f' s' w = record {
   answers = p.answers ++ w.answer ∷ [];
   state = s';
   session = subst (λ ls. Session empty files ls (p.answers ++ w.answer ∷ []) s' f') (sym p.split)
-      (session-more empty files p.lines p.answers s f p.rest w.answer s' f' p.session (of_line s f kept p.rest w.answer s' f' p.kept_is w.step));
+      (session-more empty files p.lines p.answers s f p.rest w.answer s' f' p.session
+      (of_line s f kept p.rest w.answer s' f' p.kept_is w.step));
   written = subst (λ t. Appends held h' t) (texts-more p.answers w.answer)
       (Appends-trans held h h' (texts p.answers) (answer_text w.answer) p.written w.written);
 }
 
 -- the reply to the last line is cut off
-pub last-cut : (held : Known) (files : Stored) (taken : List ℕ) (h : Known) (f : Stored) (s : State) (kept : List ℕ)
-    (p : Progress held files taken h f s kept) (h' : Known) (f' : Stored) (s' : State) → CutReply kept s f h s' f' h'
+pub last-cut : (held : Known) (files : Stored) (taken : List ℕ) (h : Known) (f : Stored)
+    (s : State) (kept : List ℕ)
+    (p : Progress held files taken h f s kept) (h' : Known) (f' : Stored) (s' : State)
+    → CutReply kept s f h s' f' h'
     → Broken held files taken h' f'
 last-cut held files taken h f s kept p h' f' s' w = record {
   lines = p.lines;
@@ -125,37 +143,54 @@ last-cut held files taken h f s kept p h' f' s' w = record {
 }
 
 -- a step of a piece: the line that ends next, gathered, and its reply
-pub line-fed : (held : Known) (files : Stored) (taken piece : List ℕ) (at end : ℕ) (h : Known) (f : Stored) (s : State) (kept : List ℕ)
+pub line-fed : (held : Known) (files : Stored) (taken piece : List ℕ) (at end : ℕ) (h : Known)
+    (f : Stored) (s : State) (kept : List ℕ)
     → Progress held files (taken ++ take at piece) h f s kept → EndsLine piece at end
-    → (t : State) (kept' : List ℕ) → t ≡ s → ((line : List ℕ) → kept ≡ kept_of line → kept' ≡ kept_of (line ++ slice_range piece at end))
-    → (h' : Known) (f' : Stored) (s' : State) (none : List ℕ) → WroteReply kept' t f h s' f' h' → none ≡ []
+    → (t : State) (kept' : List ℕ) → t ≡ s
+    → ((line : List ℕ) → kept ≡ kept_of line
+    → kept' ≡ kept_of (line ++ slice_range piece at end))
+    → (h' : Known) (f' : Stored) (s' : State) (none : List ℕ) → WroteReply kept' t f h s' f' h'
+    → none ≡ []
     → Progress held files (taken ++ take (end + 1) piece) h' f' s' none
 line-fed held files taken piece at end h f s kept p ends t kept' same gathers h' f' s' none w e =
     let wrote = subst (λ u. WroteReply kept' u f h s' f' h') same w in
-    let q = line-answered held files (taken ++ take at piece) h f s kept p (slice_range piece at end) kept' ends.plain (gathers p.rest p.kept_is) h' f' s' wrote in
-    let front = append_assoc taken (take at piece) (slice_range piece at end ++ 10 ∷ []) ∙ ap (λ bs. taken ++ bs) (sym ends.taken) in
+    let q = line-answered held files (taken ++ take at piece) h f s kept p
+    (slice_range piece at end) kept' ends.plain (gathers p.rest p.kept_is) h' f' s' wrote in
+    let front = append_assoc taken (take at piece) (slice_range piece at end ++ 10 ∷ [])
+    ∙ ap (λ bs. taken ++ bs) (sym ends.taken) in
     subst (λ bs. Progress held files bs h' f' s' none) front
-    (subst (λ bs. Progress held files ((taken ++ take at piece) ++ (slice_range piece at end ++ 10 ∷ [])) h' f' s' bs) (sym e) q)
+    (subst (λ bs. Progress held files ((taken ++ take at piece) ++
+    (slice_range piece at end ++ 10 ∷ [])) h' f' s' bs) (sym e) q)
 
 -- the same, where the reply is cut off
-pub line-fed-cut : (held : Known) (files : Stored) (taken piece : List ℕ) (at end : ℕ) (h : Known) (f : Stored) (s : State) (kept : List ℕ)
+pub line-fed-cut : (held : Known) (files : Stored) (taken piece : List ℕ) (at end : ℕ) (h : Known)
+    (f : Stored) (s : State) (kept : List ℕ)
     → Progress held files (taken ++ take at piece) h f s kept → EndsLine piece at end
-    → (t : State) (kept' : List ℕ) → t ≡ s → ((line : List ℕ) → kept ≡ kept_of line → kept' ≡ kept_of (line ++ slice_range piece at end))
+    → (t : State) (kept' : List ℕ) → t ≡ s
+    → ((line : List ℕ) → kept ≡ kept_of line
+    → kept' ≡ kept_of (line ++ slice_range piece at end))
     → (h' : Known) (f' : Stored) (s' : State) → CutReply kept' t f h s' f' h'
     → Broken held files (taken ++ piece) h' f'
 line-fed-cut held files taken piece at end h f s kept p ends t kept' same gathers h' f' s' w =
     let cut = subst (λ u. CutReply kept' u f h s' f' h') same w in
     let line = slice_range piece at end in
-    let b = line-cut held files (taken ++ take at piece) h f s kept p line (drop (end + 1) piece) kept' ends.plain (gathers p.rest p.kept_is) h' f' s' cut in
-    let all = append_assoc taken (take at piece) (line ++ 10 ∷ drop (end + 1) piece) ∙ ap (λ bs. taken ++ bs) (sym ends.whole) in
+    let b = line-cut held files (taken ++ take at piece) h f s kept p line
+    (drop (end + 1) piece) kept' ends.plain (gathers p.rest p.kept_is) h' f' s' cut in
+    let all = append_assoc taken (take at piece) (line ++ 10 ∷ drop (end + 1) piece)
+    ∙ ap (λ bs. taken ++ bs) (sym ends.whole) in
     subst (λ bs. Broken held files bs h' f') all b
 
 -- the last step of a piece: what ends no line is gathered
-pub rest-fed : (held : Known) (files : Stored) (taken piece : List ℕ) (at : ℕ) (h : Known) (f : Stored) (s : State) (kept : List ℕ)
+pub rest-fed : (held : Known) (files : Stored) (taken piece : List ℕ) (at : ℕ) (h : Known)
+    (f : Stored) (s : State) (kept : List ℕ)
     → Progress held files (taken ++ take at piece) h f s kept → IsPlain (drop at piece)
-    → (t : State) (kept' : List ℕ) → t ≡ s → ((line : List ℕ) → kept ≡ kept_of line → kept' ≡ kept_of (line ++ drop at piece))
+    → (t : State) (kept' : List ℕ) → t ≡ s
+    → ((line : List ℕ) → kept ≡ kept_of line → kept' ≡ kept_of (line ++ drop at piece))
     → Progress held files (taken ++ piece) h f t kept'
 rest-fed held files taken piece at h f s kept p plain t kept' same gathers =
-    let q = plain-bytes held files (taken ++ take at piece) h f s kept p (drop at piece) kept' plain (gathers p.rest p.kept_is) in
-    let all = append_assoc taken (take at piece) (drop at piece) ∙ ap (λ bs. taken ++ bs) (take-append-drop at piece) in
-    subst (λ u. Progress held files (taken ++ piece) h f u kept') (sym same) (subst (λ bs. Progress held files bs h f s kept') all q)
+    let q = plain-bytes held files (taken ++ take at piece) h f s kept p
+    (drop at piece) kept' plain (gathers p.rest p.kept_is) in
+    let all = append_assoc taken (take at piece) (drop at piece)
+    ∙ ap (λ bs. taken ++ bs) (take-append-drop at piece) in
+    subst (λ u. Progress held files (taken ++ piece) h f u kept') (sym same)
+    (subst (λ bs. Progress held files bs h f s kept') all q)

@@ -9,7 +9,7 @@ use Rattle.script_text.specs.declared.line.LineRefusal.{LineRefusal}
 use Rattle.script_text.specs.declared.line.LineRefusal.TheVariants as faults
 use Rattle.script_text.specs.declared.word.Word.{Word}
 use Rattle.script_text.specs.Said.{Said}
-use Rattle.script_text.specs.Table.{Entry, entry_with, keeps_any, is_taken, forms_of, may_lack_memory}
+use Rattle.script_text.specs.Table.{Entry, entry_with, keeps_any, may_lack, forms_of, may_lack_memory}
 use Rattle.script_text.specs.Line.{line_of, Reads}
 use Rattle.reply_text.specs.declared.reply.Reply.{Reply}
 use Rattle.reply_text.specs.declared.reply.Reply.TheVariants.{Refused}
@@ -23,7 +23,7 @@ use Rattle.console_run.specs.Progress.{RanCommand, RanLine}
 
 -- a row whose arguments keep bytes
 of_row : (row : Option Entry) → keeps_any (option_map_or (λ entry. entry.forms) row []) ≡ true
-    → option_map_or (λ entry. keeps_any entry.forms || is_taken entry.memory) row false ≡ true
+    → option_map_or may_lack row false ≡ true
 of_row None h = h
 of_row (Some entry) h = rw h refl
 
@@ -32,30 +32,39 @@ keeps-may_lack : (word : Word) → keeps_any (forms_of word) ≡ true → may_la
 keeps-may_lack word h = of_row (entry_with word) h
 
 -- want of memory in the place of a long reply
-pub lacking : (s : State) (f : Stored) (said : Said) (reply : Reply) (s' : State) (f' : Stored) → (IsShort reply → ⊥)
+pub lacking : (s : State) (f : Stored) (said : Said) (reply : Reply) (s' : State) (f' : Stored)
+    → (IsShort reply → ⊥)
     → IsQuietStep s f said reply s' f' → Step s f said (Refused Memory) s' f'
 lacking s f said reply s' f' long (inl short) = absurd (long short)
 lacking s f said reply s' f' long (inr lacks) = inl lacks
 
 -- a line that is a command was run as the command was
-pub ran-command : (line bytes : List ℕ) (said passed : Said) (s : State) (f : Stored) (text : List ℕ)
+pub ran-command : (line bytes : List ℕ) (said passed : Said) (s : State) (f : Stored)
+    (text : List ℕ)
     (s' : State) (f' : Stored) → bytes ≡ line → line_of bytes ≡ Ok (Command said) → passed ≡ said
     → RanCommand passed s f text s' f' → RanLine line s f text s' f'
 ran-command line bytes said passed s f text s' f' same e is ran = record {
   answer = Some ran.reply;
   step = subst (λ m. Meets m s f (Some ran.reply) s' f') (sym e ∙ ap line_of same)
-      (record { reply = ran.reply; answered = refl; step = subst (λ c. Step s f c ran.reply s' f') is ran.step });
+      (record {
+        reply = ran.reply;
+        answered = refl;
+        step = subst
+            (λ c. Step s f c ran.reply s' f') is ran.step;
+      });
   text_is = ran.text_is;
 }
 
 -- a line of which this is known is met as this
-met_as : (line : List ℕ) (meaning : Result _ LineRefusal) (s : State) (f : Stored) (answer : Option Reply)
+met_as : (line : List ℕ) (meaning : Result _ LineRefusal) (s : State) (f : Stored)
+    (answer : Option Reply)
     → line_of line ≡ meaning → Meets meaning s f answer s f → Meets (line_of line) s f answer s f
 met_as line meaning s f answer e m = subst (λ m. Meets m s f answer s f) (sym e) m
 
 -- a line that isn't run
 not_run : (line : List ℕ) (fault : LineRefusal) (s : State) (f : Stored) (text : List ℕ)
-    → Reads (line_of line) (Err fault) → text ≡ reply_text (Refused (refusal_of fault)) → RanLine line s f text s f
+    → Reads (line_of line) (Err fault) → text ≡ reply_text (Refused (refusal_of fault))
+    → RanLine line s f text s f
 not_run line faults.LongLine s f text e t = record {
   answer = Some (Refused (refusal_of faults.LongLine));
   step = met_as line _ s f _ e (refl, record { state = refl; files = refl });
@@ -81,7 +90,8 @@ not_run line faults.NoMemory s f text k t = record {
   text_is = t;
 }
 
-pub not-run : (line bytes : List ℕ) (fault : LineRefusal) (refusal : Refusal) (s : State) (f : Stored) (text : List ℕ)
+pub not-run : (line bytes : List ℕ) (fault : LineRefusal) (refusal : Refusal) (s : State)
+    (f : Stored) (text : List ℕ)
     → bytes ≡ line → Reads (line_of bytes) (Err fault) → refusal ≡ refusal_of fault
     → text ≡ reply_text (Refused refusal) → RanLine line s f text s f
 not-run line bytes fault refusal s f text same reads is t =
@@ -90,6 +100,7 @@ not-run line bytes fault refusal s f text same reads is t =
 
 -- the text of a short reply is its own
 pub own-text : (own : Bool) (reply : Reply) (text : List ℕ) (other : Type 0) → IsShort reply
-    → MatchBool own (text ≡ reply_text reply) other → OnFalse own (IsShort reply → ⊥) → text ≡ reply_text reply
+    → MatchBool own (text ≡ reply_text reply) other → OnFalse own (IsShort reply → ⊥)
+    → text ≡ reply_text reply
 own-text true reply text other short t long = t
 own-text false reply text other short t long = absurd (long short)

@@ -9,21 +9,27 @@ use Rattle.console_run.specs.Lines.{is_line_end, IsPlain}
 use Rattle.console_run.specs.Progress.{EndsLine}
 
 -- `&piece[at..]`
-pub slice_rest : (piece : List ℕ) (at : ℕ) → take (length piece - at) (drop at piece) ≡ drop at piece
-slice_rest piece at = take_all (length piece - at) (drop at piece) (omega (arith, length-drop at piece))
+pub slice_rest : (piece : List ℕ) (at : ℕ)
+    → take (length piece - at) (drop at piece) ≡ drop at piece
+slice_rest piece at = take_all (length piece - at) (drop at piece)
+    (omega (arith, length-drop at piece))
 
 -- no byte of the front is a line end
-plain_front : (hay : List ℕ) (count : ℕ) → count ≤ length hay → Nowhere (Passes (is_byte 10) hay) 0 count → IsPlain (take count hay)
+plain_front : (hay : List ℕ) (count : ℕ) → count ≤ length hay
+    → Nowhere (Passes (is_byte 10) hay) 0 count → IsPlain (take count hay)
 plain_front hay count below none = λ k d m.
     let short : length (take count hay) ≡ min count (length hay) = length-take count hay in
     let within : k < count = omega arith in
     let inside : k < length hay = omega arith in
-    let same : get_or (take count hay) k d ≡ get_or hay k 0 = get_or-take count hay k d within ∙ get_or_default hay k d 0 inside in
-    false_from_ne_true (is_line_end (get_or (take count hay) k d)) (λ e. none k (omega arith) within (sym (ap is_line_end same) ∙ e))
+    let same : get_or (take count hay) k d ≡ get_or hay k 0 = get_or-take count hay k d within
+    ∙ get_or_default hay k d 0 inside in
+    false_from_ne_true (is_line_end (get_or (take count hay) k d))
+    (λ e. none k (omega arith) within (sym (ap is_line_end same) ∙ e))
 
 -- no byte is a line end
 pub plain-all : (hay : List ℕ) → Nowhere (Passes (is_byte 10) hay) 0 (length hay) → IsPlain hay
-plain-all hay none = subst IsPlain (take-length hay) (plain_front hay (length hay) (omega arith) none)
+plain-all hay none = subst IsPlain (take-length hay)
+    (plain_front hay (length hay) (omega arith) none)
 
 -- the first line end behind a place
 pub line-ends : (piece hay : List ℕ) (at count : ℕ) → hay ≡ drop at piece
@@ -41,11 +47,14 @@ line-ends piece hay at count h none here =
     take-suc hay count 0 below ∙ ap (λ b. take count hay ++ b ∷ []) byte in
     let front : take (at + count + 1) piece ≡ take at piece ++ (take count hay ++ 10 ∷ []) =
     ap (λ n. take n piece) (sym next_is) ∙ take-add at (suc count) piece
-    ∙ ap (λ bs. take at piece ++ take (suc count) bs) (sym h) ∙ ap (λ bs. take at piece ++ bs) ended in
+    ∙ ap (λ bs. take at piece ++ take (suc count) bs) (sym h)
+    ∙ ap (λ bs. take at piece ++ bs) ended in
     let behind : drop (suc count) hay ≡ drop (at + count + 1) piece =
-    ap (λ bs. drop (suc count) bs) h ∙ drop-drop (suc count) at piece ∙ ap (λ n. drop n piece) next_is in
+    ap (λ bs. drop (suc count) bs) h ∙ drop-drop (suc count) at piece
+    ∙ ap (λ n. drop n piece) next_is in
     let rest : drop count hay ≡ 10 ∷ drop (at + count + 1) piece =
-    drop-cons hay count 0 below ∙ ap (λ b. b ∷ drop (suc count) hay) byte ∙ ap (λ bs. 10 ∷ bs) behind in
+    drop-cons hay count 0 below ∙ ap (λ b. b ∷ drop (suc count) hay) byte
+    ∙ ap (λ bs. 10 ∷ bs) behind in
     let parts : hay ≡ take count hay ++ 10 ∷ drop (at + count + 1) piece =
     sym (take-append-drop count hay) ∙ ap (λ bs. take count hay ++ bs) rest in
     record {

@@ -11,14 +11,16 @@ use Rattle.console_run.specs.Ends.{outside, EndsWriteFault, EndsTooLong}
 use Rattle.console_run.proofs.Advances.{begun}
 
 -- nothing was read
-pub pumped-start : (left : Known) (files : Stored) (held : Known) (s : State) (kept : List ℕ) → s ≡ empty → kept ≡ []
+pub pumped-start : (left : Known) (files : Stored) (held : Known) (s : State) (kept : List ℕ)
+    → s ≡ empty → kept ≡ []
     → Pumped left files held left files held 0 s kept
 pumped-start left files held s kept e k = record {
   taken = [];
   consumed = Consumes-nil left;
   counted = refl;
   progress = subst (λ t. Progress held files [] held files t kept) (sym e)
-      (subst (λ bs. Progress held files [] held files empty bs) (sym k) (begun held files (Appends-nil held)));
+      (subst (λ bs. Progress held files [] held files empty bs) (sym k)
+      (begun held files (Appends-nil held)));
 }
 
 -- what holds of a success that is one
@@ -32,22 +34,30 @@ when_err (Ok x) e h = cc
 when_err (Err x) e h = h
 
 -- one more piece was read and fed
-pub pumped-more : (left : Known) (files : Stored) (held l1 : Known) (f1 : Stored) (h1 : Known) (count : ℕ) (s : State) (kept : List ℕ)
-    (p : Pumped left files held l1 f1 h1 count s kept) (l2 : Known) (f2 : Stored) (h2 : Known) (t : State) (kept' : List ℕ)
+pub pumped-more : (left : Known) (files : Stored) (held l1 : Known) (f1 : Stored) (h1 : Known)
+    (count : ℕ) (s : State) (kept : List ℕ)
+    (p : Pumped left files held l1 f1 h1 count s kept) (l2 : Known) (f2 : Stored) (h2 : Known)
+    (t : State) (kept' : List ℕ)
     (n : ℕ) (piece got : List ℕ) → Consumes l1 l2 got → got ≡ piece → length got ≡ n
-    → Progress held files (p.taken ++ piece) h2 f2 t kept' → Pumped left files held l2 f2 h2 (count + n) t kept'
-pumped-more left files held l1 f1 h1 count s kept p l2 f2 h2 t kept' n piece got consumed same size progress = record {
-  taken = p.taken ++ got;
-  consumed = Consumes-trans left l1 l2 p.taken got p.consumed consumed;
-  counted = length-append p.taken got ∙ ap (λ (k : ℕ). k + length got) p.counted ∙ ap (λ (k : ℕ). count + k) size;
-  progress = subst (λ bs. Progress held files (p.taken ++ bs) h2 f2 t kept') (sym same) progress;
-}
+    → Progress held files (p.taken ++ piece) h2 f2 t kept'
+    → Pumped left files held l2 f2 h2 (count + n) t kept'
+pumped-more left files held l1 f1 h1 count s kept p l2 f2 h2 t kept' n piece got consumed same size
+    progress = record {
+      taken = p.taken ++ got;
+      consumed = Consumes-trans left l1 l2 p.taken got p.consumed consumed;
+      counted = length-append p.taken got ∙ ap (λ (k : ℕ). k + length got) p.counted
+          ∙ ap (λ (k : ℕ). count + k) size;
+      progress = subst (λ bs. Progress held files (p.taken ++ bs) h2 f2 t kept') (sym same) progress;
+    }
 
 -- a reply was cut off among the lines of a piece
-pub cut-ends : (left : Known) (files : Stored) (held l1 : Known) (f1 : Stored) (h1 : Known) (count : ℕ) (s : State) (kept : List ℕ)
+pub cut-ends : (left : Known) (files : Stored) (held l1 : Known) (f1 : Stored) (h1 : Known)
+    (count : ℕ) (s : State) (kept : List ℕ)
     (p : Pumped left files held l1 f1 h1 count s kept) (l2 : Known) (f2 : Stored) (h2 : Known)
-    (n : ℕ) (piece got : List ℕ) → Consumes l1 l2 got → got ≡ piece → length got ≡ n → count + n ≤ 1073741824
-    → Broken held files (p.taken ++ piece) h2 f2 → EndsWriteFault (outside left files held) (outside l2 f2 h2)
+    (n : ℕ) (piece got : List ℕ) → Consumes l1 l2 got → got ≡ piece → length got ≡ n
+    → count + n ≤ 1073741824
+    → Broken held files (p.taken ++ piece) h2 f2
+    → EndsWriteFault (outside left files held) (outside l2 f2 h2)
 cut-ends left files held l1 f1 h1 count s kept p l2 f2 h2 n piece got consumed same size within b =
     let all = subst (λ bs. Broken held files (p.taken ++ bs) h2 f2) (sym same) b in
     let long : length (p.taken ++ got) ≡ length p.taken + length got = length-append p.taken got in
@@ -64,9 +74,11 @@ cut-ends left files held l1 f1 h1 count s kept p l2 f2 h2 n piece got consumed s
     }
 
 -- the reply to the last line was cut off
-pub last-cut-ends : (left : Known) (files : Stored) (held l1 : Known) (f1 : Stored) (h1 : Known) (s : State) (kept : List ℕ)
+pub last-cut-ends : (left : Known) (files : Stored) (held l1 : Known) (f1 : Stored) (h1 : Known)
+    (s : State) (kept : List ℕ)
     (w : ReadWhole left files held l1 f1 h1 s kept) (f2 : Stored) (h2 : Known)
-    → Broken held files w.pumped.taken h2 f2 → EndsWriteFault (outside left files held) (outside l1 f2 h2)
+    → Broken held files w.pumped.taken h2 f2
+    → EndsWriteFault (outside left files held) (outside l1 f2 h2)
 last-cut-ends left files held l1 f1 h1 s kept w f2 h2 b =
     let counted : length w.pumped.taken ≡ w.count = w.pumped.counted in
     let few : w.count ≤ 1073741824 = w.within in
@@ -82,9 +94,12 @@ last-cut-ends left files held l1 f1 h1 s kept w f2 h2 b =
     }
 
 -- one read more gave a byte
-pub too-long : (left : Known) (files : Stored) (held l1 : Known) (f1 : Stored) (h1 : Known) (count : ℕ) (s : State) (kept : List ℕ)
-    (p : Pumped left files held l1 f1 h1 count s kept) (l2 : Known) (more : List ℕ) → Consumes l1 l2 more
-    → count ≡ 1073741824 → 0 < length more → EndsTooLong (outside left files held) (outside l2 f1 h1)
+pub too-long : (left : Known) (files : Stored) (held l1 : Known) (f1 : Stored) (h1 : Known)
+    (count : ℕ) (s : State) (kept : List ℕ)
+    (p : Pumped left files held l1 f1 h1 count s kept) (l2 : Known) (more : List ℕ)
+    → Consumes l1 l2 more
+    → count ≡ 1073741824 → 0 < length more
+    → EndsTooLong (outside left files held) (outside l2 f1 h1)
 too-long left files held l1 f1 h1 count s kept p l2 more consumed full beyond = record {
   taken = p.taken;
   more = more;

@@ -8,7 +8,8 @@ use Rattle.leda_edge.specs.Stored.{Stored}
 use Rattle.console_run.specs.Session.{LineStep, Session, answer_text, texts}
 
 -- one more line behind a session
-pub session-more : (s : State) (f : Stored) (lines : List (List ℕ)) (answers : List (Option Reply)) (m : State) (g : Stored)
+pub session-more : (s : State) (f : Stored) (lines : List (List ℕ)) (answers : List (Option Reply))
+    (m : State) (g : Stored)
     (line : List ℕ) (answer : Option Reply) (s' : State) (f' : Stored)
     → Session s f lines answers m g → LineStep m g line answer s' f'
     → Session s f (lines ++ line ∷ []) (answers ++ answer ∷ []) s' f'
@@ -17,7 +18,8 @@ session-more s f [] answers m g line answer s' f' h step = record {
   later = [];
   state = s';
   files = f';
-  first = subst (λ t. LineStep t f line answer s' f') h.1.state (subst (λ k. LineStep m k line answer s' f') h.1.files step);
+  first = subst (λ t. LineStep t f line answer s' f') h.1.state
+      (subst (λ k. LineStep m k line answer s' f') h.1.files step);
   others = (refl, record { state = refl; files = refl });
   all = ap (λ all. all ++ answer ∷ []) h.0;
 }
@@ -35,4 +37,5 @@ session-more s f (l ∷ ls) answers m g line answer s' f' h step = record {
 pub texts-more : (answers : List (Option Reply)) (answer : Option Reply)
     → texts answers ++ answer_text answer ≡ texts (answers ++ answer ∷ [])
 texts-more answers answer =
-    sym (flat_map-append answer_text answers (answer ∷ []) ∙ ap (λ t. texts answers ++ t) (append-nil (answer_text answer)))
+    sym (flat_map-append answer_text answers (answer ∷ [])
+    ∙ ap (λ t. texts answers ++ t) (append-nil (answer_text answer)))

@@ -12,7 +12,8 @@ abbrev pub Known : Type 0
 Known = Option (List ℕ)
 
 -- the lines were run from an empty session, and what was written is the texts of their replies
-pub record Answered (files : Stored) (held : Known) (lines : List (List ℕ)) (now_files : Stored) (now_held : Known) : Type 0 where
+pub record Answered (files : Stored) (held : Known) (lines : List (List ℕ))
+    (now_files : Stored) (now_held : Known) : Type 0 where
   pub answers : List (Option Reply)
   pub state : State
   pub session : Session empty files lines answers state now_files

@@ -24,25 +24,29 @@ pub record EndsLine (piece : List ℕ) (at end : ℕ) : Type 0 where
   pub whole : piece ≡ take at piece ++ (slice_range piece at end ++ 10 ∷ drop (end + 1) piece)
 
 -- the command was run, and this is the text of its reply
-pub record RanCommand (said : Said) (s : State) (f : Stored) (text : List ℕ) (s' : State) (f' : Stored) : Type 0 where
+pub record RanCommand (said : Said) (s : State) (f : Stored) (text : List ℕ) (s' : State)
+    (f' : Stored) : Type 0 where
   pub reply : Reply
   pub step : Step s f said reply s' f'
   pub text_is : text ≡ reply_text reply
 
 -- the line was run, and this is the text of its reply
-pub record RanLine (line : List ℕ) (s : State) (f : Stored) (text : List ℕ) (s' : State) (f' : Stored) : Type 0 where
+pub record RanLine (line : List ℕ) (s : State) (f : Stored) (text : List ℕ) (s' : State)
+    (f' : Stored) : Type 0 where
   pub answer : Option Reply
   pub step : LineStep s f line answer s' f'
   pub text_is : text ≡ answer_text answer
 
 -- the line was run, and its reply written
-pub record WroteReply (line : List ℕ) (s : State) (f : Stored) (h : Known) (s' : State) (f' : Stored) (h' : Known) : Type 0 where
+pub record WroteReply (line : List ℕ) (s : State) (f : Stored) (h : Known) (s' : State)
+    (f' : Stored) (h' : Known) : Type 0 where
   pub answer : Option Reply
   pub step : LineStep s f line answer s' f'
   pub written : Appends h h' (answer_text answer)
 
 -- the line was run, and its reply not written whole
-pub record CutReply (line : List ℕ) (s : State) (f : Stored) (h : Known) (s' : State) (f' : Stored) (h' : Known) : Type 0 where
+pub record CutReply (line : List ℕ) (s : State) (f : Stored) (h : Known) (s' : State)
+    (f' : Stored) (h' : Known) : Type 0 where
   pub reply : Reply
   pub step : LineStep s f line (Some reply) s' f'
   pub count : ℕ
@@ -61,7 +65,8 @@ pub record Progress (held : Known) (files : Stored) (taken : List ℕ)
   pub kept_is : kept ≡ kept_of rest
 
 -- bytes were taken, so many, and the run has got as far as they go
-pub record Pumped (left : Known) (files : Stored) (held : Known) (now_left : Known) (now_files : Stored) (now_held : Known)
+pub record Pumped (left : Known) (files : Stored) (held : Known) (now_left : Known)
+    (now_files : Stored) (now_held : Known)
     (count : ℕ) (state : State) (kept : List ℕ) : Type 0 where
   pub taken : List ℕ
   pub consumed : Consumes left now_left taken
@@ -69,7 +74,8 @@ pub record Pumped (left : Known) (files : Stored) (held : Known) (now_left : Kno
   pub progress : Progress held files taken now_held now_files state kept
 
 -- the script was read to its end, and what is kept of the last line is still to be answered
-pub record ReadWhole (left : Known) (files : Stored) (held : Known) (now_left : Known) (now_files : Stored) (now_held : Known)
+pub record ReadWhole (left : Known) (files : Stored) (held : Known) (now_left : Known)
+    (now_files : Stored) (now_held : Known)
     (state : State) (kept : List ℕ) : Type 0 where
   pub count : ℕ
   pub within : count ≤ 1073741824
@@ -77,7 +83,8 @@ pub record ReadWhole (left : Known) (files : Stored) (held : Known) (now_left : 
   pub at_end : IsAtEnd now_left
 
 -- of the bytes taken, some first lines are answered, and the reply to the next one is cut off
-pub record Broken (held : Known) (files : Stored) (taken : List ℕ) (now_held : Known) (now_files : Stored) : Type 0 where
+pub record Broken (held : Known) (files : Stored) (taken : List ℕ) (now_held : Known)
+    (now_files : Stored) : Type 0 where
   pub lines : List (List ℕ)
   pub line : List ℕ
   pub later : List (List ℕ)

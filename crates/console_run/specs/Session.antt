@@ -30,7 +30,8 @@ pub record Stays (s : State) (f : Stored) (s' : State) (f' : Stored) : Type 0 wh
   pub files : f' ≡ f
 
 -- a command ran
-pub record Ran (s : State) (f : Stored) (answer : Option Reply) (s' : State) (f' : Stored) (command : Said) : Type 0 where
+pub record Ran (s : State) (f : Stored) (answer : Option Reply) (s' : State) (f' : Stored)
+    (command : Said) : Type 0 where
   pub reply : Reply
   pub answered : answer ≡ Some reply
   pub step : Step s f command reply s' f'

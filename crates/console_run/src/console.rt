@@ -115,7 +115,8 @@ impl Console {
 
     /// Puts bytes behind the unfinished line, as many as tell what it means.
     fn gather(&mut self, bytes: &[u8])
-        ensures kept { (line : List ℕ) → self.old.line.items ≡ kept_of line → self.new.line.items ≡ kept_of (line ++ bytes.now) }
+        ensures kept { (line : List ℕ) → self.old.line.items ≡ kept_of line
+            → self.new.line.items ≡ kept_of (line ++ bytes.now) }
         ensures session { self.new.session ≡ self.old.session }
     {
         let count = bytes.len().min(KEPT_LIMIT - self.line.len());
@@ -131,11 +132,14 @@ impl Console {
         piece: &[u8],
     ) -> Result<(), Failed>
         ensures ok { (held : Known) (before : Stored) (taken : List ℕ) → Progress held before taken
-            (K.held out.old) (stored (F.files files.old) (F.faults files.old)) self.old.session self.old.line.items
+            (K.held out.old) (stored (F.files files.old) (F.faults files.old))
+            self.old.session self.old.line.items
             → OnOk result (Progress held before (taken ++ piece.now)
-            (K.held out.new) (stored (F.files files.new) (F.faults files.new)) self.new.session self.new.line.items) }
+            (K.held out.new) (stored (F.files files.new) (F.faults files.new))
+            self.new.session self.new.line.items) }
         ensures err { (held : Known) (before : Stored) (taken : List ℕ) → Progress held before taken
-            (K.held out.old) (stored (F.files files.old) (F.faults files.old)) self.old.session self.old.line.items
+            (K.held out.old) (stored (F.files files.old) (F.faults files.old))
+            self.old.session self.old.line.items
             → OnErr result (Broken held before (taken ++ piece.now)
             (K.held out.new) (stored (F.files files.new) (F.faults files.new))) }
         ensures told { StaysTold (K.held out.old) (K.held out.new) }
@@ -160,11 +164,13 @@ impl Console {
         out: &mut K,
     ) -> Result<(), Failed>
         ensures ok { (held : Known) (before : Stored) (taken : List ℕ) → Progress held before taken
-            (K.held out.old) (stored (F.files files.old) (F.faults files.old)) self.old.session self.old.line.items
+            (K.held out.old) (stored (F.files files.old) (F.faults files.old))
+            self.old.session self.old.line.items
             → OnOk result (Answered before held (lines_of taken)
             (stored (F.files files.new) (F.faults files.new)) (K.held out.new)) }
         ensures err { (held : Known) (before : Stored) (taken : List ℕ) → Progress held before taken
-            (K.held out.old) (stored (F.files files.old) (F.faults files.old)) self.old.session self.old.line.items
+            (K.held out.old) (stored (F.files files.old) (F.faults files.old))
+            self.old.session self.old.line.items
             → OnErr result (Broken held before taken
             (K.held out.new) (stored (F.files files.new) (F.faults files.new))) }
         ensures told { StaysTold (K.held out.old) (K.held out.new) }

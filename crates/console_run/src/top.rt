@@ -47,8 +47,10 @@ pub fn run<S: Source, F: Store, K: Sink>(
     requires { 0 < length words.now }
     // What was read, what was written and what the files hold.
     ensures ends { Ends result
-        (outside (S.left script.old) (stored (F.files files.old) (F.faults files.old)) (K.held out.old))
-        (outside (S.left script.new) (stored (F.files files.new) (F.faults files.new)) (K.held out.new)) }
+        (outside (S.left script.old)
+        (stored (F.files files.old) (F.faults files.old)) (K.held out.old))
+        (outside (S.left script.new)
+        (stored (F.files files.new) (F.faults files.new)) (K.held out.new)) }
     // A run that doesn't begin touches nothing, whether it is told or not.
     ensures unbegun { IsUnbegun result
         → (script.new ≡ script.old) × (files.new ≡ files.old) × (out.new ≡ out.old) }
@@ -86,8 +88,10 @@ fn pump<S: Source, F: Store, K: Sink>(
     requires session { console.old.session ≡ empty }
     requires line { console.old.line.items ≡ [] }
     ensures ends { Ends result
-        (outside (S.left script.old) (stored (F.files files.old) (F.faults files.old)) (K.held out.old))
-        (outside (S.left script.new) (stored (F.files files.new) (F.faults files.new)) (K.held out.new)) }
+        (outside (S.left script.old)
+        (stored (F.files files.old) (F.faults files.old)) (K.held out.old))
+        (outside (S.left script.new)
+        (stored (F.files files.new) (F.faults files.new)) (K.held out.new)) }
     ensures words { result ≢ Status.Words }
     ensures begun { IsUnbegun result → ⊥ }
     ensures read { result ≡ Status.ReadFault → Rose (S.faults script.old) (S.faults script.new) }
@@ -128,11 +132,15 @@ fn read_script<S: Source, F: Store, K: Sink>(
         console.new.session console.new.line.items) }
     ensures ends { IfErr result (λ status.
         Ends status
-        (outside (S.left script.old) (stored (F.files files.old) (F.faults files.old)) (K.held out.old))
-        (outside (S.left script.new) (stored (F.files files.new) (F.faults files.new)) (K.held out.new))) }
+        (outside (S.left script.old)
+        (stored (F.files files.old) (F.faults files.old)) (K.held out.old))
+        (outside (S.left script.new)
+        (stored (F.files files.new) (F.faults files.new)) (K.held out.new))) }
     ensures early { IfErr result IsEarly }
-    ensures read { IfErr result (λ status. status ≡ Status.ReadFault → Rose (S.faults script.old) (S.faults script.new)) }
-    ensures write { IfErr result (λ status. status ≡ Status.WriteFault → Rose (K.faults out.old) (K.faults out.new)) }
+    ensures read { IfErr result (λ status. status ≡ Status.ReadFault
+        → Rose (S.faults script.old) (S.faults script.new)) }
+    ensures write { IfErr result (λ status. status ≡ Status.WriteFault
+        → Rose (K.faults out.old) (K.faults out.new)) }
     ensures reads { S.faults script.old ≤ S.faults script.new }
     ensures writes { K.faults out.old ≤ K.faults out.new }
     ensures left { StaysTold (S.left script.old) (S.left script.new) }

@@ -1,5 +1,5 @@
 -- What the arguments of a command meet where nothing is refused of them.
-use Rattle.std.proofs.Common.{◌≡◌, Bool, true, false, List, [], ◌∷◌, refl, cond}
+use Rattle.std.proofs.Common.{◌≡◌, Bool, true, false, List, [], ◌∷◌, refl, ap, ◌∙◌, sym, subst, cond}
 use Rattle.std.specs.Prelude.{Option, None, Some, option_map}
 use Rattle.std.specs.Option.{option_or}
 use Rattle.std.specs.Bool.{MatchBool}
@@ -9,6 +9,8 @@ use Rattle.script_text.specs.declared.argument.Arg.{Arg}
 use Rattle.script_text.specs.declared.argument.Arg.TheVariants as args
 use Rattle.script_text.specs.declared.form.Form.{Form}
 use Rattle.script_text.specs.declared.word.Word.{Word}
+use Rattle.script_text.specs.Said.{Said}
+use Rattle.script_text.specs.Table.{forms_of}
 use Rattle.console_state.specs.declared.order.Rule.TheVariants as rules
 use Rattle.console_state.specs.declared.order.Standing.{Standing}
 use Rattle.console_state.specs.declared.order.Standing.TheVariants.{Unknown, Dead, Hidden, Visible}
@@ -47,11 +49,15 @@ stands false Visible x g h = tt
 
 -- an argument of which neither rule refuses anything
 met : (s : State) (form : Form) (arg : Arg) (later : List Arg)
-    → refusal_by s rules.Gone form arg later ≡ None → refusal_by s rules.Hidden form arg later ≡ None
+    → refusal_by s rules.Gone form arg later ≡ None
+    → refusal_by s rules.Hidden form arg later ≡ None
     → IsMet s form arg later
-met s form (args.Node v) later g h = stands (asks_visible form) (standing s (items.Node v)) (items.Node v) g h
-met s form (args.Edge e) later g h = stands (asks_visible form) (standing s (items.Edge e)) (items.Edge e) g h
-met s form (args.Cell i) later g h = stands (asks_visible form) (standing s (items.Cell i)) (items.Cell i) g h
+met s form (args.Node v) later g h = stands (asks_visible form) (standing s (items.Node v))
+    (items.Node v) g h
+met s form (args.Edge e) later g h = stands (asks_visible form) (standing s (items.Edge e))
+    (items.Edge e) g h
+met s form (args.Cell i) later g h = stands (asks_visible form) (standing s (items.Cell i))
+    (items.Cell i) g h
 met s form (args.Name name) later g h = tt
 met s form (args.Num number) later g h = tt
 met s form (args.Label label) later g h = tt
@@ -62,7 +68,8 @@ met s form (args.Kept sort) later g h = tt
 
 -- arguments of which neither rule refuses anything
 all-met : (s : State) (forms : List Form) (args : List Arg)
-    → leftmost s rules.Gone forms args ≡ None → leftmost s rules.Hidden forms args ≡ None → AreMet s forms args
+    → leftmost s rules.Gone forms args ≡ None → leftmost s rules.Hidden forms args ≡ None
+    → AreMet s forms args
 all-met s [] [] g h = tt
 all-met s [] (arg ∷ later) g h = tt
 all-met s (form ∷ forms) [] g h = tt
@@ -71,12 +78,16 @@ all-met s (form ∷ forms) (arg ∷ later) g h =
     let hidden = or-none _ _ h in
     (met s form arg later gone.0 hidden.0, all-met s forms later gone.1 hidden.1)
 
--- nothing stands in the way of the command
-pub cleared : (s : State) (word : Word) (forms : List Form) (args : List Arg)
-    → refusal_among s word forms args ≡ None → AreMet s forms args
-cleared s word forms args h =
-    let one = or-none _ _ h in
+-- nothing stands in the way of the command, whose forms and arguments were read, and the arguments once more
+pub cleared : (s : State) (read : Word) (forms : List Form) (args : List Arg) (word : Word)
+    (said : Said) (again : List Arg) → None ≡ refusal_among s read forms args
+    → forms ≡ forms_of said.word → args ≡ said.args → word ≡ said.word → again ≡ said.args
+    → AreMet s (forms_of word) again
+cleared s read forms args word said again h f a w b =
+    let one = or-none _ _ (sym h) in
     let two = or-none _ _ one.1 in
     let three = or-none _ _ two.1 in
     let four = or-none _ _ three.1 in
-    all-met s forms args two.0 four.0
+    let met = all-met s forms args two.0 four.0 in
+    subst (λ all. AreMet s (forms_of word) all) (a ∙ sym b)
+    (subst (λ forms. AreMet s forms args) (f ∙ ap forms_of (sym w)) met)

@@ -19,7 +19,8 @@ cons_all limit arc arcs first others zero d within = first
 cons_all limit arc arcs first others (suc k) d within = others k d (omega arith)
 
 -- the arcs of a walk are arcs of the net
-walk_within : (net : Net) (v w : ℕ) (arcs : List ℕ) → IsWalk net v w arcs → All (λ arc. arc < length net.arcs) arcs
+walk_within : (net : Net) (v w : ℕ) (arcs : List ℕ) → IsWalk net v w arcs
+    → All (λ arc. arc < length net.arcs) arcs
 walk_within net v w [] walk = λ k d within. absurd (omega arith)
 walk_within net v w (arc ∷ arcs) walk =
     cons_all (length net.arcs) arc arcs walk.0 (walk_within net (target net arc) w arcs walk.2)
@@ -32,8 +33,10 @@ reach-named net v w (Walk arcs) walk = let P : ℕ → Type 0 = λ n. All (λ ar
 reach-named net v w (Closed set) closed = let P : ℕ → Type 0 = λ n. All (λ node. node < n) set in
     subst P (sym (length-numbers net.n)) closed.cut.nodes.among
 
-pub answer-named : (net : Net) (v w : ℕ) (answer : Reach) (named : Named) → named.nodes ≡ numbers net.n
-    → named.edges ≡ numbers (length net.arcs) → named.answer ≡ answers.Reach answer → IsReach net v w answer
+pub answer-named : (net : Net) (v w : ℕ) (answer : Reach) (named : Named)
+    → named.nodes ≡ numbers net.n
+    → named.edges ≡ numbers (length net.arcs) → named.answer ≡ answers.Reach answer
+    → IsReach net v w answer
     → IsAnswerNamed named.nodes named.edges named.answer
 answer-named net v w answer named nodes edges is right =
     rw (nodes, edges, is) (reach-named net v w answer right)

@@ -27,5 +27,6 @@ slice_get-numbers count number h =
     let long : number - 1 < length (numbers count) = omega (arith, within, length-numbers count) in
     let back : number - 1 + 1 ≡ number = omega (arith, bounds.0) in
     slice_get-get_or (numbers count) (number - 1) 0 long
-    ∙ ap Some (get_or-map-range_with_len (λ place. place + 1) 0 count (number - 1) (number - 1) 0 within (omega arith))
+    ∙ ap Some (get_or-map-range_with_len (λ place. place + 1) 0 count (number - 1)
+    (number - 1) 0 within (omega arith))
     ∙ ap Some back

@@ -1,5 +1,5 @@
 //! The graph of a session, and the edits of it.
-ghost use Rattle.std.specs.Prelude.{◌≡◌, true, length};
+ghost use Rattle.std.specs.Prelude.{◌≡◌, true, false, length};
 ghost use Rattle.graph_defs.specs.Net.{IsValid};
 ghost use Rattle.reply_text.specs.Outcome.{Gives};
 ghost use Rattle.console_state.specs.Graph.{is_among as among, node, edge};
@@ -18,7 +18,7 @@ pub(crate) fn is_among(count: u32, number: u32) -> bool
 /// Makes a node. It takes no memory.
 pub(crate) fn new_node(graph: &mut Net) -> Reply
     requires { IsValid graph.old }
-    ensures gives { (graph.new, result) ≡ node graph.old }
+    ensures gives { Gives false (node graph.old) graph.old result graph.new }
     ensures valid { IsValid graph.new }
 {
     if graph.n == NODE_LIMIT {

@@ -19,17 +19,34 @@ pub returns-then-is_err-clause-ends : goal.returns-then-is_err-clause-ends
 returns-then-is_err-clause-ends g c =
     let p = c.loop-taken.invariant.1 in
     cut-ends _ _ _ _ _ _ _ _ _ p _ _ _ c.in-Ok.count _ _ c.in-Ok.ensures.bytes.0
-    (sym (take-append-le c.in-Ok.count c.read.new.buf _ c.in-Ok.ensures.bound.0)) (sym c.in-Ok.ensures.bound.1)
-    (omega (arith, c.in-Ok.ensures.bound.0, c.read.auto.buf, c.min-most.ensures, length-take {A = ℕ}))
+    (sym (take-append-le c.in-Ok.count c.read.new.buf _ c.in-Ok.ensures.bound.0))
+    (sym c.in-Ok.ensures.bound.1)
+    (omega (
+      arith,
+      c.in-Ok.ensures.bound.0,
+      c.read.auto.buf,
+      c.min-most.ensures,
+      length-take
+          {A = ℕ},
+    ))
     (when_err c.feed.result c.if-is_err.ensures.value (c.feed.ensures.err _ _ p.taken p.progress))
 
 pub loop-taken-preserved : goal.loop-taken-preserved
 loop-taken-preserved g c =
     let p = c.loop-taken.invariant.1 in (
-      omega (arith, c.in-Ok.ensures.bound.0, c.read.auto.buf, c.min-most.ensures, length-take {A = ℕ}),
+      omega (
+        arith,
+        c.in-Ok.ensures.bound.0,
+        c.read.auto.buf,
+        c.min-most.ensures,
+        length-take
+            {A = ℕ},
+      ),
       pumped-more _ _ _ _ _ _ _ _ _ p _ _ _ _ _ c.in-Ok.count _ _ c.in-Ok.ensures.bytes.0
-          (sym (take-append-le c.in-Ok.count c.read.new.buf _ c.in-Ok.ensures.bound.0)) (sym c.in-Ok.ensures.bound.1)
-          (when_ok c.feed.result (sym c.if-is_err.ensures.value) (c.feed.ensures.ok _ _ p.taken p.progress)),
+          (sym (take-append-le c.in-Ok.count c.read.new.buf _ c.in-Ok.ensures.bound.0))
+          (sym c.in-Ok.ensures.bound.1)
+          (when_ok c.feed.result (sym c.if-is_err.ensures.value)
+          (c.feed.ensures.ok _ _ p.taken p.progress)),
       search rules,
       search rules,
       search rules,

@@ -14,16 +14,20 @@ returns-in_err-end_line-clause-err g c = λ held before taken p. err_is c.from_r
 pub loop-end-preserved : goal.loop-end-preserved
 loop-end-preserved g c = (
   omega (arith, c.in-Some.ensures.found.within),
-  λ held before taken p. line-fed held before taken c.args.piece.now c.loop-end.at c.in-Some.end _ _ _ _
+  λ held before taken p. line-fed held before taken c.args.piece.now c.loop-end.at c.in-Some.end _
+      _ _ _
       (c.loop-end.invariant.1 held before taken p) c.in-Some.ensures.found
-      _ _ c.gather.ensures.session c.gather.ensures.kept _ _ _ _ c.in_ok-end_line.ensures.ok c.end_line.ensures.empty,
+      _ _ c.gather.ensures.session c.gather.ensures.kept _ _ _ _ c.in_ok-end_line.ensures.ok
+      c.end_line.ensures.empty,
   search rules,
   search rules,
   search rules,
 )
 
 pub returns-clause-ok : goal.returns-clause-ok
-returns-clause-ok g c = λ held before taken p. rest-fed held before taken c.args.piece.now c.loop-end.at _ _ _ _
+returns-clause-ok g c = λ held before taken p. rest-fed held before taken c.args.piece.now
+    c.loop-end.at _ _ _ _
     (c.loop-end.invariant.1 held before taken p) c.in_default.ensures.none
     _ _ c.gather-2.ensures.session
-    (λ line h. c.gather-2.ensures.kept line h ∙ ap (λ bs. kept_of (line ++ bs)) (slice_rest c.args.piece.now c.loop-end.at))
+    (λ line h. c.gather-2.ensures.kept line h
+    ∙ ap (λ bs. kept_of (line ++ bs)) (slice_rest c.args.piece.now c.loop-end.at))
