@@ -9,7 +9,7 @@ use Rattle.script_text.specs.declared.line.LineRefusal.{LineRefusal}
 use Rattle.script_text.specs.declared.line.LineRefusal.TheVariants as faults
 use Rattle.script_text.specs.declared.word.Word.{Word}
 use Rattle.script_text.specs.Said.{Said}
-use Rattle.script_text.specs.Table.{Entry, entry_with, keeps_any, is_taken, forms_of, may_lack_memory}
+use Rattle.script_text.specs.Table.{Entry, entry_with, keeps_any, may_lack, forms_of, may_lack_memory}
 use Rattle.script_text.specs.Line.{line_of, Reads}
 use Rattle.reply_text.specs.declared.reply.Reply.{Reply}
 use Rattle.reply_text.specs.declared.reply.Reply.TheVariants.{Refused}
@@ -23,7 +23,7 @@ use Rattle.console_run.specs.Progress.{RanCommand, RanLine}
 
 -- a row whose arguments keep bytes
 of_row : (row : Option Entry) → keeps_any (option_map_or (λ entry. entry.forms) row []) ≡ true
-    → option_map_or (λ entry. keeps_any entry.forms || is_taken entry.memory) row false ≡ true
+    → option_map_or may_lack row false ≡ true
 of_row None h = h
 of_row (Some entry) h = rw h refl
 

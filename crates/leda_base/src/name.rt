@@ -3,8 +3,8 @@
 /// How many bytes the name of an object may have.
 pub const NAME_LIMIT: usize = 32;
 
-/// What an item is, and the number by which it is called: the node 7 is printed `n7`, the edge 3 `e3`, the item 5 of
-/// a container `i5`.
+/// What an item is, and the number by which it is called: the node 7 is printed `n7`, the edge 3
+/// `e3`, the item 5 of a container `i5`.
 #[derive(Clone, Copy, Debug, PartialEq, Eq)]
 pub enum ItemName {
     Node(u32),

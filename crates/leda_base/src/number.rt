@@ -1,4 +1,4 @@
-// Integers as decimal text.
+//! Integers as decimal text.
 ghost use Rattle.std.specs.Prelude.{◌≡◌, ◌↔◌, ◌-◌, ◌^◌, ◌++◌, min, None, Some, Err, IfOk, OnOk, OnErr, IsSomeAnd, FitsSigned};
 ghost use Rattle.std.specs.Fmt.{signed_decimal};
 ghost use Rattle.std.specs.Int.{w64};
@@ -34,7 +34,8 @@ fn are_digits(text: &[u8]) -> bool
     !text.is_empty() && has_only_digits(text)
 }
 
-// The number that digits write, or `u64::MAX` where it is larger. None where these aren't one or more digits.
+// The number that digits write, or `u64::MAX` where it is larger. None where these aren't one or
+// more digits.
 fn magnitude_of(digits: &[u8]) -> Option<u64>
     ensures { result ≡ option_map (λ n. min n (2 ^ 64 - 1)) (natural_of digits.now) }
 {
@@ -49,13 +50,16 @@ fn magnitude_of(digits: &[u8]) -> Option<u64>
     Some(magnitude)
 }
 
-/// Reads an optional `-` and one or more digits. Leading zeros are allowed, and any number of digits.
+/// Reads an optional `-` and one or more digits. Leading zeros are allowed, and any number of
+/// digits.
 ///
 /// # Errors
-/// `NotNumber` exactly where the text isn't of this form, and else `OutOfRange` exactly where the value is outside i64.
+/// `NotNumber` exactly where the text isn't of this form, and else `OutOfRange` exactly where the
+/// value is outside i64.
 pub fn read_i64(text: &[u8]) -> Result<i64, NumFault>
     ensures form { (result ≡ Err NumFault.NotNumber) ↔ (integer_of text.now ≡ None) }
-    ensures range { result ≡ Err NumFault.OutOfRange → IsSomeAnd (integer_of text.now) (λ z. ¬ FitsSigned w64 z) }
+    ensures range { result ≡ Err NumFault.OutOfRange
+        → IsSomeAnd (integer_of text.now) (λ z. ¬ FitsSigned w64 z) }
     ensures value { IfOk result (λ z. integer_of text.now ≡ Some z) }
 {
     let value = match text {

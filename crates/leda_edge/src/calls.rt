@@ -1,4 +1,4 @@
-// Calls that fail by a list.
+//! Calls that fail by a list.
 ghost use Rattle.std.specs.Prelude.{◌≡◌, ◌≤◌, ◌↔◌, IsTrue, Contains};
 ghost use Rattle.leda_edge.specs.Causes.{one_more};
 
@@ -18,11 +18,16 @@ impl Model for CallPlan {
 
     ghost Value = { Calls };
 
-    ghost view = { λ plan. record { fails = plan.fails.items; made = plan.made; faults = plan.faults } };
+    ghost view = { λ plan. record {
+      fails = plan.fails.items;
+      made = plan.made;
+      faults = plan.faults;
+    } };
 }
 
 impl CallPlan {
-    /// No call was made. The calls with these numbers are to fail, and the first call has the number 1.
+    /// No call was made. The calls with these numbers are to fail, and the first call has the
+    /// number 1.
     pub fn new(fails: Vec<u64>) -> Self
         ensures { result ≡ record { fails = fails.items; made = 0; faults = 0 } }
     {
@@ -33,7 +38,8 @@ impl CallPlan {
         }
     }
 
-    /// Counts a call, and says whether it is to fail. The count stands still at the last value of a u64.
+    /// Counts a call, and says whether it is to fail. The count stands still at the last value of a
+    /// u64.
     pub fn begin(&mut self) -> bool
         ensures listed { IsTrue result ↔ Contains self.old.fails self.new.made }
         ensures after { self.new ≡ record self.old { made = one_more self.old.made } }

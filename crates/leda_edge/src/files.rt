@@ -1,4 +1,4 @@
-// The real files.
+//! The real files.
 ghost use Rattle.std.specs.Prelude.{◌≡◌, ◌≤◌, None, IfOk, vec_len};
 
 use crate::store::{LoadFault, SaveFault, Store};
@@ -8,8 +8,8 @@ use std::io::{ErrorKind, Read};
 use std::marker::Model;
 use std::rt::Files;
 
-/// The files of a runtime as a store. It tells nothing of them, and counts each error other than that a file isn't
-/// there.
+/// The files of a runtime as a store. It tells nothing of them, and counts each error other than
+/// that a file isn't there.
 #[derive(Drop)]
 pub struct FileStore<'a, R> {
     rt: &'a R,

@@ -1,7 +1,8 @@
 //! The outside of the console: a script to read, a sink for replies, and files to load and save.
 //!
 //! Each trait tells what its object holds or has left, or tells nothing, and counts its faults.
-//! `Failed` is answered only where that count rose in the call, or stands at the last value of a u64.
+//! `Failed` is answered only where that count rose in the call, or stands at the last value of a
+//! u64.
 #![tactic(auto)]
 
 mod calls;

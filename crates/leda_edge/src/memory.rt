@@ -1,4 +1,5 @@
-// A source and a sink in memory, for tests: how they give, take and fail is laid down when they are made.
+//! A source and a sink in memory, for tests: how they give, take and fail is laid down when they
+//! are made.
 ghost use Rattle.std.specs.Prelude.{◌≡◌, ◌⊎◌, ◌↔◌, ◌-◌, ◌<◌, min, [], ◌++◌, length, drop, Some, IsErr, IfOk, OnOk, OnErr, Contains};
 ghost use Rattle.std.specs.Io.{ReadsAtMost, WritesAtMost};
 ghost use Rattle.std.specs.Io.KnownBytes.{ReadConsumes, WriteAppends};
@@ -28,17 +29,26 @@ impl Model for MemSource {
 
     ghost Value = { Reading };
 
-    ghost view = { λ source. record { left = source.bytes; piece = source.piece; calls = source.calls } };
+    ghost view = { λ source. record {
+      left = source.bytes;
+      piece = source.piece;
+      calls = source.calls;
+    } };
 
     ghost invariant = { λ source. 0 < source.piece };
 }
 
 impl MemSource {
-    /// A source that gives `bytes`, at most `piece` of them per read; `piece` is at least 1. The reads whose numbers
-    /// are in `fails` fail. The first read has the number 1, and numbers stop at `u64::MAX`.
+    /// A source that gives `bytes`, at most `piece` of them per read; `piece` is at least 1. The
+    /// reads whose numbers are in `fails` fail. The first read has the number 1, and numbers stop
+    /// at `u64::MAX`.
     pub fn new(bytes: Vec<u8>, piece: usize, fails: Vec<u64>) -> MemSource
         requires { 0 < piece }
-        ensures { result ≡ record { left = bytes.items; piece = piece; calls = record { fails = fails.items; made = 0; faults = 0 } } }
+        ensures { result ≡ record {
+          left = bytes.items;
+          piece = piece;
+          calls = record { fails = fails.items; made = 0; faults = 0 };
+        } }
     {
         MemSource {
             bytes: SureSource::new(bytes),
@@ -62,9 +72,12 @@ impl Source for MemSource {
 
         // A read fails exactly where its number is listed, and else gives as much as it may.
         ensures listed { IsErr result ↔ Contains self.old.calls.fails self.new.calls.made }
-        ensures count { IfOk result (λ count. count ≡ min (length self.old.left) (min (length buf.old) self.old.piece)) }
-        ensures ok { IfOk result (λ count. self.new ≡ record self.old { left = drop count self.old.left; calls = counted self.old.calls }) }
-        ensures err { OnErr result (self.new ≡ record self.old { calls = counted_failed self.old.calls }) }
+        ensures count { IfOk result (λ count. count
+            ≡ min (length self.old.left) (min (length buf.old) self.old.piece)) }
+        ensures ok { IfOk result (λ count. self.new
+            ≡ record self.old { left = drop count self.old.left; calls = counted self.old.calls }) }
+        ensures err { OnErr result (self.new
+            ≡ record self.old { calls = counted_failed self.old.calls }) }
     {
         if self.calls.begin() {
             return Err(self.calls.fail());
@@ -88,20 +101,28 @@ impl Model for MemSink {
 
     ghost Value = { Writing };
 
-    ghost view = { λ sink. record { bytes = sink.bytes.items; room = sink.room; calls = sink.calls } };
+    ghost view = { λ sink. record {
+      bytes = sink.bytes.items;
+      room = sink.room;
+      calls = sink.calls;
+    } };
 
     ghost invariant = { λ sink. vec_len sink.bytes + sink.room ≤ vec_capacity sink.bytes };
 }
 
 impl MemSink {
-    /// A sink with room for `room` bytes, which it takes at once. The writes whose numbers are in `fails` fail, and
-    /// so do those of a piece that is longer than the room left. The first write has the number 1, and numbers stop
-    /// at `u64::MAX`.
+    /// A sink with room for `room` bytes, which it takes at once. The writes whose numbers are in
+    /// `fails` fail, and so do those of a piece that is longer than the room left. The first write
+    /// has the number 1, and numbers stop at `u64::MAX`.
     ///
     /// # Errors
     /// `NoMemory` where the room isn't given.
     pub fn new(alloc: Global, room: usize, fails: Vec<u64>) -> Result<MemSink, NoMemory>
-        ensures { IfOk result (λ sink. sink ≡ record { bytes = []; room = room; calls = record { fails = fails.items; made = 0; faults = 0 } }) }
+        ensures { IfOk result (λ sink. sink ≡ record {
+          bytes = [];
+          room = room;
+          calls = record { fails = fails.items; made = 0; faults = 0 };
+        }) }
     {
         Ok(MemSink {
             bytes: Vec::with_capacity(alloc, room)?,
@@ -131,11 +152,18 @@ impl Sink for MemSink {
         ensures told { StaysTold (Some self.old.bytes) (Some self.new.bytes) }
         ensures cause { HasCause self.old.calls.faults self.new.calls.faults result }
 
-        // A write fails exactly where its number is listed or the room is too small, and else takes the whole piece.
-        ensures refused { IsErr result ↔ (Contains self.old.calls.fails self.new.calls.made ⊎ self.old.room < length piece.now) }
+        // A write fails exactly where its number is listed or the room is too small, and else takes
+        // the whole piece.
+        ensures refused { IsErr result ↔ (Contains self.old.calls.fails self.new.calls.made
+            ⊎ self.old.room < length piece.now) }
         ensures count { IfOk result (λ count. count ≡ length piece.now) }
-        ensures ok { OnOk result (self.new ≡ record { bytes = self.old.bytes ++ piece.now; room = self.old.room - length piece.now; calls = counted self.old.calls }) }
-        ensures err { OnErr result (self.new ≡ record self.old { calls = counted_failed self.old.calls }) }
+        ensures ok { OnOk result (self.new ≡ record {
+          bytes = self.old.bytes ++ piece.now;
+          room = self.old.room - length piece.now;
+          calls = counted self.old.calls;
+        }) }
+        ensures err { OnErr result (self.new
+            ≡ record self.old { calls = counted_failed self.old.calls }) }
     {
         if self.calls.begin() || self.room < piece.len() {
             return Err(self.calls.fail());

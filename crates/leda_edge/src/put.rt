@@ -1,4 +1,4 @@
-// Writing a whole piece.
+//! Writing a whole piece.
 ghost use Rattle.std.specs.Prelude.{◌≡◌, [], OnOk, OnErr};
 ghost use Rattle.std.specs.Io.KnownBytes.{Appends};
 ghost use Rattle.leda_edge.specs.Causes.{HasCause};
@@ -7,10 +7,12 @@ ghost use Rattle.leda_edge.specs.Parts.{StaysTold, TookPart};
 use crate::sink::Sink;
 use crate::source::Failed;
 
-/// Offers the piece, then what is left of it, until all of it is taken. Of an empty piece nothing is offered.
+/// Offers the piece, then what is left of it, until all of it is taken. Of an empty piece nothing
+/// is offered.
 ///
 /// # Errors
-/// `Failed` only where the sink's count of faults rose. A prefix of the piece that isn't all of it was taken then.
+/// `Failed` only where the sink's count of faults rose. A prefix of the piece that isn't all of it
+/// was taken then.
 pub fn put_all<K: Sink>(sink: &mut K, piece: &[u8]) -> Result<(), Failed>
     ensures whole { OnOk result (Appends (K.held sink.old) (K.held sink.new) piece.now) }
     ensures part { OnErr result (TookPart (K.held sink.old) (K.held sink.new) piece.now) }

@@ -1,4 +1,4 @@
-// What a script is read from.
+//! What a script is read from.
 ghost use Rattle.std.specs.Prelude.{ℕ, ◌<◌, List, length, Option};
 ghost use Rattle.std.specs.Io.{ReadsAtMost};
 ghost use Rattle.std.specs.Io.KnownBytes.{ReadConsumes};
@@ -17,7 +17,8 @@ pub trait Source {
     /// How many reads have failed.
     ghost faults: { Self → ℕ };
 
-    /// Puts the next bytes at the front of `buf`, which isn't empty, and answers how many: 0 exactly at the end.
+    /// Puts the next bytes at the front of `buf`, which isn't empty, and answers how many: 0
+    /// exactly at the end.
     ///
     /// # Errors
     /// `Failed` only where the count of faults rose. Nothing was taken then.

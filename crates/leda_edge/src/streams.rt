@@ -1,4 +1,4 @@
-// The real streams.
+//! The real streams.
 ghost use Rattle.std.specs.Prelude.{◌≡◌, ℕ, ◌<◌, List, length, None, IfOk};
 ghost use Rattle.std.specs.Io.{ReadsAtMost, WritesAtMost};
 ghost use Rattle.std.specs.Io.KnownBytes.{ReadConsumes, WriteAppends};
@@ -49,7 +49,8 @@ impl<R: Read> Source for StdSource<R> {
         ensures cause { HasCause self.old.faults self.new.faults result }
 
         // What is given is what the reader gave.
-        ensures passed { ReadConsumes (R.remaining self.old.stream) (R.remaining self.new.stream) result buf.new }
+        ensures passed { ReadConsumes (R.remaining self.old.stream)
+            (R.remaining self.new.stream) result buf.new }
     {
         match self.reader.read(buf) {
             Ok(count) => Ok(count),
@@ -61,8 +62,8 @@ impl<R: Read> Source for StdSource<R> {
     }
 }
 
-/// A writer of std as a sink. It tells nothing of its bytes, and counts each error of the writer and each write that
-/// takes no byte.
+/// A writer of std as a sink. It tells nothing of its bytes, and counts each error of the writer
+/// and each write that takes no byte.
 #[derive(Drop)]
 pub struct StdSink<W> {
     writer: W,
@@ -102,7 +103,8 @@ impl<W: Write> Sink for StdSink<W> {
         ensures cause { HasCause self.old.faults self.new.faults result }
 
         // What is taken is what the writer took.
-        ensures passed { WriteAppends (W.contents self.old.stream) (W.contents self.new.stream) result piece.now }
+        ensures passed { WriteAppends (W.contents self.old.stream)
+            (W.contents self.new.stream) result piece.now }
     {
         match self.writer.write(piece) {
             Ok(count) if 0 < count => Ok(count),

@@ -1,4 +1,4 @@
-// A source and a sink that never fail.
+//! A source and a sink that never fail.
 ghost use Rattle.std.specs.Prelude.{◌≡◌, ℕ, ◌<◌, min, List, length, drop, None, Some, Ok, IfOk};
 ghost use Rattle.std.specs.Io.{ReadsAtMost, WritesAtMost};
 ghost use Rattle.std.specs.Io.KnownBytes.{ReadConsumes, WriteAppends};
@@ -57,7 +57,8 @@ impl Source for SureSource {
     }
 }
 
-/// A sink that takes every piece whole, keeps nothing of it and doesn't tell what it holds. No write to it fails.
+/// A sink that takes every piece whole, keeps nothing of it and doesn't tell what it holds. No
+/// write to it fails.
 #[derive(Clone, Copy, Debug, Default, PartialEq, Eq)]
 pub struct SureSink;
 

@@ -1,4 +1,4 @@
-// What the objects of this crate give, take and answer, on small examples.
+//! What the objects of this crate give, take and answer, on small examples.
 ghost use Rattle.std.specs.Prelude.{Some};
 
 use super::*;
