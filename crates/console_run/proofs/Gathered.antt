@@ -4,7 +4,8 @@ use Rattle.std.proofs.lemmas.List.{take_min}
 use Rattle.script_text.specs.Line.{kept_most, kept_of}
 use Rattle.script_text.proofs.Kept.{kept_most-is}
 
--- the first m bytes of a line that grew: those of the line, and then as many as are wanted of what came
+-- the first m bytes of a line that grew: those of the line, and then as many as are wanted of what
+-- came
 take_both : (m : ℕ) (line bytes : List ℕ)
     → take m line ++ take (min (length bytes) (m - length (take m line))) bytes
     ≡ take m (line ++ bytes)

@@ -47,7 +47,8 @@ pumped-more left files held l1 f1 h1 count s kept p l2 f2 h2 t kept' n piece got
       consumed = Consumes-trans left l1 l2 p.taken got p.consumed consumed;
       counted = length-append p.taken got ∙ ap (λ (k : ℕ). k + length got) p.counted
           ∙ ap (λ (k : ℕ). count + k) size;
-      progress = subst (λ bs. Progress held files (p.taken ++ bs) h2 f2 t kept') (sym same) progress;
+      progress = subst (λ bs. Progress held files (p.taken ++ bs) h2 f2 t kept')
+          (sym same) progress;
     }
 
 -- a reply was cut off among the lines of a piece

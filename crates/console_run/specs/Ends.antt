@@ -7,7 +7,8 @@ use Rattle.console_run.specs.declared.top.Status.TheVariants.{Done, Words, ReadF
 use Rattle.console_run.specs.Lines.{lines_of}
 use Rattle.console_run.specs.Answers.{Known, Answered, BrokeOff}
 
--- the outside before a call and after it: the script's bytes that are left, the files, and the bytes written
+-- the outside before a call and after it: the script's bytes that are left, the files, and the
+-- bytes written
 pub record Outside : Type 0 where
   pub left : Known
   pub files : Stored
@@ -45,8 +46,8 @@ pub record EndsWriteFault (old new : Outside) : Type 0 where
   pub split : lines_of taken ≡ lines ++ line ∷ later
   pub broke : BrokeOff old.files old.held lines line new.files new.held
 
--- as many bytes as a script may have were taken, and one read more gave some; the lines that an LF ended among the
--- first are answered
+-- as many bytes as a script may have were taken, and one read more gave some; the lines that an LF
+-- ended among the first are answered
 pub record EndsTooLong (old new : Outside) : Type 0 where
   pub taken : List ℕ
   pub more : List ℕ

@@ -53,7 +53,8 @@ pub record CutReply (line : List ℕ) (s : State) (f : Stored) (h : Known) (s' :
   pub short : count < length (reply_text reply)
   pub written : Appends h h' (take count (reply_text reply))
 
--- of the bytes taken, the lines that an LF ended are answered, and what tells the meaning of the rest is kept
+-- of the bytes taken, the lines that an LF ended are answered, and what tells the meaning of the
+-- rest is kept
 pub record Progress (held : Known) (files : Stored) (taken : List ℕ)
     (now_held : Known) (now_files : Stored) (state : State) (kept : List ℕ) : Type 0 where
   pub lines : List (List ℕ)

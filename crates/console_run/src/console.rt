@@ -22,7 +22,8 @@ use reply_text::{Refusal, Reply, put_reply};
 use script_text::{Command, LINE_LIMIT, Line, LineRefusal, parse_line};
 use std::alloc::{AllocError, Global};
 
-/// How many bytes of an unfinished line are kept: one more than a line may have, which tells that it is too long.
+/// How many bytes of an unfinished line are kept: one more than a line may have, which tells that
+/// it is too long.
 const KEPT_LIMIT: usize = LINE_LIMIT + 1;
 
 /// How many bytes the reply buffer begins with.
@@ -90,7 +91,8 @@ impl Console {
         }
     }
 
-    /// Runs the line in the buffer, writes its reply, and leaves the buffer empty for the next line.
+    /// Runs the line in the buffer, writes its reply, and leaves the buffer empty for the next
+    /// line.
     pub(crate) fn end_line<F: Store, K: Sink>(
         &mut self,
         files: &mut F,
@@ -182,7 +184,8 @@ impl Console {
     }
 }
 
-/// Puts the text of a reply into an empty buffer, or that of want of memory where a long reply finds none.
+/// Puts the text of a reply into an empty buffer, or that of want of memory where a long reply
+/// finds none.
 ///
 /// Whether it is the text of the reply.
 fn put_text(to: &mut Vec<u8>, reply: &Reply) -> bool

@@ -1,4 +1,4 @@
-//! What no clause says: the replies of scripts, row by row, and what a failing source or sink leaves.
+//! What a run writes and answers, on small scripts and at its limits.
 ghost use Rattle.std.specs.Prelude.{◌<◌, None};
 
 use crate::{Status, run};
@@ -81,7 +81,8 @@ fn a_sure_outside_has_no_fault(rt: HostRuntime) -> Result<(), Fail> {
     Ok(())
 }
 
-/// Ends a script of five commands at the first call that is to fail, and gives the status and the bytes written.
+/// Ends a script of five commands at the first call that is to fail, and gives the status and the
+/// bytes written.
 fn faulty_run(rt: &HostRuntime, read: u64, write: u64) -> Result<(Status, MemSink), Fail> {
     let script = Vec::from_slice(rt.alloc(), b"node\nnode\nedge n1 n2\nedge n1 n3\nnode")?;
     let mut source = MemSource::new(script, 5, Vec::from_slice(rt.alloc(), &[read])?);

@@ -30,13 +30,15 @@ pub enum Status {
     WriteFault = 4,
     /// There was no memory for the buffers. Nothing was read or written.
     NoMemory = 5,
-    /// The script has more than 1,073,741,824 bytes. The lines that ended within so many are answered.
+    /// The script has more than 1,073,741,824 bytes. The lines that ended within so many are
+    /// answered.
     TooLong = 6,
 }
 
 /// Runs a script: one reply for each command is written, in order, before the next line is run.
 ///
-/// `words` are the words of the command line, of which the first is the program's name; there is to be no other.
+/// `words` are the words of the command line, of which the first is the program's name; there is to
+/// be no other.
 pub fn run<S: Source, F: Store, K: Sink>(
     alloc: Global,
     words: &[&str],

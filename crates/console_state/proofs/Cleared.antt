@@ -78,7 +78,8 @@ all-met s (form ∷ forms) (arg ∷ later) g h =
     let hidden = or-none _ _ h in
     (met s form arg later gone.0 hidden.0, all-met s forms later gone.1 hidden.1)
 
--- nothing stands in the way of the command, whose forms and arguments were read, and the arguments once more
+-- nothing stands in the way of the command, whose forms and arguments were read, and the arguments
+-- once more
 pub cleared : (s : State) (read : Word) (forms : List Form) (args : List Arg) (word : Word)
     (said : Said) (again : List Arg) → None ≡ refusal_among s read forms args
     → forms ≡ forms_of said.word → args ≡ said.args → word ≡ said.word → again ≡ said.args

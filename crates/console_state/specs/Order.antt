@@ -25,7 +25,8 @@ use Rattle.console_state.specs.declared.order.Standing.TheVariants as stands
 use Rattle.console_state.specs.State.{State}
 use Rattle.console_state.specs.Views.{standing, has_object, holds_cell, is_directed}
 
--- the kinds that are asked for: where these are those of values of the next argument, by what that is
+-- the kinds that are asked for: where these are those of values of the next argument, by what that
+-- is
 abbrev pub asked : Kinds → List Arg → Kinds
 asked kinds.ElementValues (args.Node v ∷ later) = kinds.NodeValues
 asked kinds.ElementValues (args.Edge e ∷ later) = kinds.EdgeValues
@@ -112,8 +113,8 @@ abbrev pub first_of : {A : Type 0} → List (Option A) → Option A
 first_of [] = None
 first_of (one ∷ more) = option_or one (first_of more)
 
--- The first refusal of arguments of these forms: an object, an item that isn't there, an item of another kind of
--- container, a hidden item, the kind of graph, a name that is taken.
+-- The first refusal of arguments of these forms: an object, an item that isn't there, an item of
+-- another kind of container, a hidden item, the kind of graph, a name that is taken.
 abbrev pub refusal_among : State → Word → List Form → List Arg → Option Refusal
 refusal_among s word forms args =
     let first = λ (rule : Rule). leftmost s rule forms args in

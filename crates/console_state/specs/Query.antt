@@ -18,7 +18,8 @@ use Rattle.console_state.specs.Views.{net_of, node_names, edge_names, AtPlaceOf}
 abbrev pub broken : QueryWord → List Arg → State → Option Refusal
 broken queries.Reach args s = None
 
--- the answer to the query of these arguments is right of the net; other arguments than the word's have no answer
+-- the answer to the query of these arguments is right of the net; other arguments than the word's
+-- have no answer
 abbrev pub IsRight : QueryWord → List Arg → State → Answer → Type 0
 IsRight queries.Reach (args.Node v ∷ args.Node w ∷ []) s (answers.Reach answer) =
     AtPlaceOf (node_names s) v (λ from. AtPlaceOf (node_names s) w (λ to.

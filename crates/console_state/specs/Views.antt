@@ -1,4 +1,4 @@
--- What is asked of a session: how an item stands, which objects there are, and the net that queries are asked of.
+-- What is asked of a session: how an item stands, which objects there are, its net with its names.
 use Rattle.std.specs.Prelude.{◌≡◌, ℕ, ◌+◌, Bool, true, false, if◌then◌else◌, List, length, map, slice_get, Some}
 use Rattle.std.specs.List.{range_with_len}
 use Rattle.leda_base.specs.declared.ItemName.{ItemName}

@@ -1,4 +1,4 @@
-//! What stands in the way of a command, whatever the command is: by the forms of its arguments, in one order.
+//! What stands in the way of a command, by the forms of its arguments, in one order for all.
 ghost use Rattle.std.specs.Prelude.{◌≡◌, option_map, IfSome};
 ghost use Rattle.std.specs.List.{AllZip};
 ghost use Rattle.script_text.specs.Form.{keeps_bytes, IsOfForm};
@@ -178,7 +178,8 @@ impl Session {
     }
 }
 
-/// The kinds that are asked for: where these are those of values of the next argument, by what that is.
+/// The kinds that are asked for: where these are those of values of the next argument, by what that
+/// is.
 fn asked(kinds: Kinds, later: &[Arg]) -> Kinds
     ensures { result ≡ asked kinds later.now }
 {

@@ -60,7 +60,8 @@ impl Session {
 
     /// Runs one command, which has the arguments that its word takes.
     ///
-    /// A refusal leaves the session and the files as they were. Behind it `keep` makes the command's step whole.
+    /// A refusal leaves the session and the files as they were. Behind it `keep` makes the
+    /// command's step whole.
     pub fn apply<F: Store>(&mut self, command: &Command, files: &mut F) -> Reply
         requires { IsWhole command.now }
         ensures step { Step self.old (stored (F.files files.old) (F.faults files.old))

@@ -19,4 +19,6 @@ natural_of text = if is_digits text then Some (fold with_digit 0 text) else None
 -- the integer that an optional `-` and digits write, if the text is of this form
 abbrev pub integer_of : List ℕ → Option ℤ
 integer_of [] = None
-integer_of (b ∷ bs) = if b == 45 then option_map (λ n. pos 0 -ℤ pos n) (natural_of bs) else option_map pos (natural_of (b ∷ bs))
+integer_of (b ∷ bs) =
+    if b == 45 then option_map (λ n. pos 0 -ℤ pos n) (natural_of bs)
+    else option_map pos (natural_of (b ∷ bs))

@@ -1,5 +1,4 @@
--- What loading and saving do to files, each a list of bytes under the bytes of its name. Where the files aren't told,
--- nothing is said of them.
+-- What loading and saving do to files, which are bytes under names; nothing, where they aren't told.
 use Rattle.std.specs.Prelude.{◌≡◌, ◌≢◌, ℕ, ◌<◌, List, length, ⊤, Option, None, Some, IsSomeAnd}
 
 -- the bytes of the file of that name, if there is one

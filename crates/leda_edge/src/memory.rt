@@ -1,5 +1,5 @@
-//! A source and a sink in memory, for tests: how they give, take and fail is laid down when they are
-//! made.
+//! A source and a sink in memory, for tests: how they give, take and fail is laid down when they
+//! are made.
 ghost use Rattle.std.specs.Prelude.{◌≡◌, ◌⊎◌, ◌↔◌, ◌-◌, ◌<◌, min, [], ◌++◌, length, drop, Some, IsErr, IfOk, OnOk, OnErr, Contains};
 ghost use Rattle.std.specs.Io.{ReadsAtMost, WritesAtMost};
 ghost use Rattle.std.specs.Io.KnownBytes.{ReadConsumes, WriteAppends};
@@ -118,12 +118,11 @@ impl MemSink {
     /// # Errors
     /// `NoMemory` where the room isn't given.
     pub fn new(alloc: Global, room: usize, fails: Vec<u64>) -> Result<MemSink, NoMemory>
-        ensures { IfOk result (λ sink. sink
-            ≡ record {
-              bytes = [];
-              room = room;
-              calls = record { fails = fails.items; made = 0; faults = 0 };
-            }) }
+        ensures { IfOk result (λ sink. sink ≡ record {
+          bytes = [];
+          room = room;
+          calls = record { fails = fails.items; made = 0; faults = 0 };
+        }) }
     {
         Ok(MemSink {
             bytes: Vec::with_capacity(alloc, room)?,
@@ -158,12 +157,11 @@ impl Sink for MemSink {
         ensures refused { IsErr result ↔ (Contains self.old.calls.fails self.new.calls.made
             ⊎ self.old.room < length piece.now) }
         ensures count { IfOk result (λ count. count ≡ length piece.now) }
-        ensures ok { OnOk result (self.new
-            ≡ record {
-              bytes = self.old.bytes ++ piece.now;
-              room = self.old.room - length piece.now;
-              calls = counted self.old.calls;
-            }) }
+        ensures ok { OnOk result (self.new ≡ record {
+          bytes = self.old.bytes ++ piece.now;
+          room = self.old.room - length piece.now;
+          calls = counted self.old.calls;
+        }) }
         ensures err { OnErr result (self.new
             ≡ record self.old { calls = counted_failed self.old.calls }) }
     {

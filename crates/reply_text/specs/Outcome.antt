@@ -30,7 +30,8 @@ pub record LacksMemory {S : Type 0} (free : Bool) (s : S) (reply : Reply) (next 
   pub answer : reply ≡ Refused Memory
   pub state : next ≡ s
 
--- the state s leads to the next one, and to the reply, as is given; or, where the command is free to, it lacks memory
+-- the state s leads to the next one, and to the reply, as is given; or, where the command is free
+-- to, it lacks memory
 abbrev pub Gives : {S : Type 0} → Bool → Outcome S → S → Reply → S → Type 0
 Gives free given s reply next = LacksMemory free s reply next ⊎ ((next, reply) ≡ given)
 

@@ -1,9 +1,9 @@
 //! Replies, and the lines of text that they are written as.
 //!
-//! A reply is a list of lines, and a line is a mark and words: `=` begins a success, `!` a refusal. `specs/Words.antt`
-//! has the words of items, cells and successes, `specs/Refusals.antt` those of refusals, and `specs/Text.antt` makes
-//! lines of them. `specs/Outcome.antt` says what a command leads to, whatever the state is that it changes: the next
-//! state and a reply, or want of memory.
+//! A reply is a list of lines, and a line is a mark and words: `=` begins a success, `!` a refusal.
+//! `specs/Words.antt` has the words of items, cells and successes, `specs/Refusals.antt` those of
+//! refusals, and `specs/Text.antt` makes lines of them. `specs/Outcome.antt` says what a command
+//! leads to, whatever the state is that it changes: the next state and a reply, or want of memory.
 #![tactic(auto)]
 
 mod appending;

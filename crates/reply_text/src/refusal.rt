@@ -16,7 +16,8 @@ pub enum Refusal {
     Syntax(u32),
     /// A number is out of range: the column, from 1, at which it begins.
     Number(u32),
-    /// No object of a kind that the command takes has the name, or the item's container is of another kind.
+    /// No object of a kind that the command takes has the name, or the item's container is of
+    /// another kind.
     Object(ObjectName),
     /// No item of this name was ever made.
     Unknown(ItemName),

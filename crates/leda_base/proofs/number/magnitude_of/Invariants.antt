@@ -5,4 +5,5 @@ use Rattle.leda_base.specs.Decimal.{with_digit}
 use Rattle.leda_base.proofs.number.magnitude_of.Given as goal
 
 abbrev pub invariant-loop-digit : goal.invariant-loop-digit
-invariant-loop-digit l = l.magnitude ≡ min (fold with_digit 0 (take l.digit-index l.digits)) (2 ^ 64 - 1)
+invariant-loop-digit l = l.magnitude ≡ min (fold with_digit 0 (take l.digit-index l.digits))
+    (2 ^ 64 - 1)

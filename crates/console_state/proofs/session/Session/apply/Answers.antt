@@ -5,9 +5,11 @@ use Rattle.console_state.proofs.session.Session.apply.Goals as goal
 pub edit-requires-clause-met : goal.edit-requires-clause-met
 edit-requires-clause-met g c = cleared c.args.self.now c.word.result c.forms.result.now
     c.args-2.result.now (Edit c.in-Edit.word) c.args.command.now c.args-in-Edit.result.now
-    c.in_default.ensures.first c.forms.ensures c.args-2.ensures c.in-Edit.ensures c.args-in-Edit.ensures
+    c.in_default.ensures.first c.forms.ensures c.args-2.ensures c.in-Edit.ensures
+    c.args-in-Edit.ensures
 
 pub query-requires-clause-met : goal.query-requires-clause-met
 query-requires-clause-met g c = cleared c.args.self.now c.word.result c.forms.result.now
     c.args-2.result.now (Query c.in-Query.word) c.args.command.now c.args-in-Query.result.now
-    c.in_default.ensures.first c.forms.ensures c.args-2.ensures c.in-Query.ensures c.args-in-Query.ensures
+    c.in_default.ensures.first c.forms.ensures c.args-2.ensures c.in-Query.ensures
+    c.args-in-Query.ensures
