@@ -24,37 +24,44 @@ struct Parts {
     unreached: Vec<u32>,
 }
 
+// The nodes at a finite distance, for these distances of node 0 and of node 4.
+fn finite(alloc: Global, source: i64, other: i64) -> Result<Vec<Finite>, NoMemory> {
+    Ok(vec![in alloc;
+        Finite {
+            node: 0,
+            dist: source,
+            pred: None
+        },
+        Finite {
+            node: 4,
+            dist: other,
+            pred: Some(4)
+        },
+    ]?)
+}
+
+// The nodes below every distance, where this is why node 3 is one.
+fn low(alloc: Global, last: Why) -> Result<Vec<Low>, NoMemory> {
+    Ok(vec![in alloc;
+        Low {
+            node: 1,
+            why: Why::Seed(0)
+        },
+        Low {
+            node: 2,
+            why: Why::Seed(0)
+        },
+        Low { node: 3, why: last },
+    ]?)
+}
+
 fn right(alloc: Global) -> Result<Parts, NoMemory> {
     Ok(Parts {
-        finite: vec![in alloc;
-            Finite {
-                node: 0,
-                dist: 0,
-                pred: None
-            },
-            Finite {
-                node: 4,
-                dist: 5,
-                pred: Some(4)
-            },
-        ]?,
+        finite: finite(alloc, 0, 5)?,
         start: 0,
         walk: vec![in alloc; 0]?,
         cycle: vec![in alloc; 1, 2]?,
-        low: vec![in alloc;
-            Low {
-                node: 1,
-                why: Why::Seed(0)
-            },
-            Low {
-                node: 2,
-                why: Why::Seed(0)
-            },
-            Low {
-                node: 3,
-                why: Why::Arc(3)
-            },
-        ]?,
+        low: low(alloc, Why::Arc(3))?,
         unreached: vec![in alloc; 5]?,
     })
 }
@@ -111,11 +118,11 @@ fn each_condition_is_found_where_it_is_broken_first(rt: HostRuntime) -> Result<(
     assert_eq!(rt; verdict(&rt, alloc, parts)?, no(Cond::Once, 3));
 
     let mut parts = right(alloc)?;
-    parts.finite[0].dist = 1;
+    parts.finite = finite(alloc, 1, 5)?;
     assert_eq!(rt; verdict(&rt, alloc, parts)?, no(Cond::Source, 0));
 
     let mut parts = right(alloc)?;
-    parts.finite[1].dist = 4;
+    parts.finite = finite(alloc, 0, 4)?;
     assert_eq!(rt; verdict(&rt, alloc, parts)?, no(Cond::TightNode, 4));
 
     let mut parts = right(alloc)?;
@@ -123,7 +130,7 @@ fn each_condition_is_found_where_it_is_broken_first(rt: HostRuntime) -> Result<(
     assert_eq!(rt; verdict(&rt, alloc, parts)?, no(Cond::Seed, 0));
 
     let mut parts = right(alloc)?;
-    parts.low[2].why = Why::Seed(0);
+    parts.low = low(alloc, Why::Seed(0))?;
     assert_eq!(rt; verdict(&rt, alloc, parts)?, no(Cond::Low, 3));
 
     let mut parts = right(alloc)?;
