@@ -1,0 +1,5 @@
+pub mod Edits
+pub mod Formed
+pub mod Names
+pub mod Refusals
+pub mod State

@@ -1,0 +1,30 @@
+//! Why an edit or a look was refused.
+
+use item_pool::Gone;
+use leda_base::ItemName;
+
+/// Why an edit was refused. All is then as before.
+#[derive(Clone, Copy, Debug, PartialEq, Eq)]
+pub enum EditRefusal {
+    /// The item is dead, or was never made.
+    Gone(ItemName, Gone),
+    /// The item isn't visible.
+    Hidden(ItemName),
+    /// There are as many nodes as there may be.
+    FullNodes,
+    /// There are as many edges as there may be.
+    FullEdges,
+    /// Each number has been given.
+    Spent,
+    /// There was no memory.
+    NoMemory,
+}
+
+/// Why a look, or an edit that takes no memory, was refused. All is then as before.
+#[derive(Clone, Copy, Debug, PartialEq, Eq)]
+pub enum LookRefusal {
+    /// The item is dead, or was never made.
+    Gone(ItemName, Gone),
+    /// The item isn't visible.
+    Hidden(ItemName),
+}
