@@ -1,5 +1,5 @@
 -- When an edit or a look is refused, by the items that it names.
-use Rattle.std.specs.Prelude.{◌≡◌, ℕ, ◌<◌, ◌≤◌, ◌⊎◌, true, false, List, [], ◌∷◌, length}
+use Rattle.std.specs.Prelude.{◌≡◌, ℕ, ◌<◌, ◌⊎◌, true, false, List, [], ◌∷◌, length}
 use Rattle.item_pool.specs.Contents.{WhyGone}
 use Rattle.item_pool.specs.declared.pool.Gone.{Gone}
 use Rattle.leda_base.specs.declared.name.ItemName.{ItemName}
