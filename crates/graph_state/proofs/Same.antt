@@ -42,12 +42,12 @@ pub flag_tells : (a b : Bool) → (a ≡ b) ⊎ (a ≡ b → ⊥)
 flag_tells a b = elim (bool_tells a b) [ inl y ↦ inl y.1 | inr n ↦ inr n.1 ]
 
 pub dart_tells : (a b : Dart) → Tells same_dart a b
-dart_tells a b = elim (nat_tells a.edge b.edge) [
-  | inl y ↦ elim (bool_tells a.back b.back) [
-    | inl z ↦ inl (ap (λ t. t && cond a.back b.back (not b.back)) y.0 ∙ z.0, λ i. record { edge = y.1 i; back = z.1 i })
-    | inr n ↦ inr (ap (λ t. t && cond a.back b.back (not b.back)) y.0 ∙ n.0, λ e. n.1 (ap (λ (d : Dart). d.back) e))
+dart_tells a b = elim (bool_tells a.back b.back) [
+  | inl y ↦ elim (nat_tells a.edge b.edge) [
+    | inl z ↦ inl (ap (λ t. t && (a.edge == b.edge)) y.0 ∙ z.0, λ i. record { edge = z.1 i; back = y.1 i })
+    | inr n ↦ inr (ap (λ t. t && (a.edge == b.edge)) y.0 ∙ n.0, λ e. n.1 (ap (λ (d : Dart). d.edge) e))
   ]
-  | inr n ↦ inr (ap (λ t. t && cond a.back b.back (not b.back)) n.0, λ e. n.1 (ap (λ (d : Dart). d.edge) e))
+  | inr n ↦ inr (ap (λ t. t && (a.edge == b.edge)) n.0, λ e. n.1 (ap (λ (d : Dart). d.back) e))
 ]
 
 pub element_tells : (a b : Element) → Tells same_element a b

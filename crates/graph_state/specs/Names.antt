@@ -1,5 +1,5 @@
 -- The lists of a graph by their names, and what stands in them.
-use Rattle.std.specs.Prelude.{◌≡◌, ℕ, Bool, true, false, cond, ◌==◌, ◌&&◌, not, ◌⊎◌, List, [], ◌∷◌, map, filter}
+use Rattle.std.specs.Prelude.{◌≡◌, ℕ, Bool, true, false, cond, ◌==◌, ◌&&◌, not, ◌⊎◌, List, [], ◌∷◌, map, filter, Option, Some, None}
 use Rattle.graph_defs.specs.declared.dart.Dart.{Dart}
 use Rattle.graph_state.specs.declared.name.ListName.{ListName}
 use Rattle.graph_state.specs.declared.name.ListName.TheVariants.{Nodes, Edges, Out, In}
@@ -53,7 +53,7 @@ home s (End d) = cond d.back (back_row s.directed (target s d.edge)) (Out (sourc
 
 -- whether the two are the same
 abbrev pub same_dart : Dart → Dart → Bool
-same_dart c d = (c.edge == d.edge) && cond c.back d.back (not d.back)
+same_dart c d = cond c.back d.back (not d.back) && (c.edge == d.edge)
 
 abbrev pub same_element : Element → Element → Bool
 same_element (Node v) (Node w) = v == w
@@ -96,3 +96,14 @@ module _ {X : Type 0} (same : X → X → Bool) where
 
   abbrev pub without : X → List X → List X
   without x zs = filter (λ z. not (same z x)) zs
+
+module _ {X : Type 0} where
+  -- the first and the last of the list
+  abbrev pub first_of : List X → Option X
+  first_of [] = None
+  first_of (x ∷ xs) = Some x
+
+  abbrev pub last_of : List X → Option X
+  last_of [] = None
+  last_of (x ∷ []) = Some x
+  last_of (x ∷ y ∷ ys) = last_of (y ∷ ys)

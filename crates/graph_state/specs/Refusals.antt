@@ -49,6 +49,11 @@ abbrev pub RefusesLook : GraphState → List ItemName → LookRefusal → Type 0
 RefusesLook s xs (looks.Gone x why) = IsFirstGone s xs x why
 RefusesLook s xs (looks.Hidden x) = AreThere s xs × IsFirstHidden s xs x
 
+-- the item is gone
+abbrev pub IsGoneOf : GraphState → ItemName → LookRefusal → Type 0
+IsGoneOf s x (looks.Gone y why) = (y ≡ x) × IsGone s x why
+IsGoneOf s x (looks.Hidden y) = ⊥
+
 -- a new node, or a new edge, can be made
 pub record HasRoom (count most made : ℕ) : Type 0 where
   pub few : count < most
@@ -86,3 +91,20 @@ RefusesList s xs edits.FullNodes = ⊥
 RefusesList s xs edits.FullEdges = ⊥
 RefusesList s xs edits.Spent = ⊥
 RefusesList s xs edits.NoMemory = AreVisible s xs
+
+-- why no node is made, or no edge, but for want of memory
+abbrev pub FullNode : GraphState → EditRefusal → Type 0
+FullNode s (edits.Gone x why) = ⊥
+FullNode s (edits.Hidden x) = ⊥
+FullNode s edits.FullNodes = length s.nodes ≡ 100000
+FullNode s edits.FullEdges = ⊥
+FullNode s edits.Spent = (length s.nodes < 100000) × (s.made_nodes ≡ 16777215)
+FullNode s edits.NoMemory = ⊥
+
+abbrev pub FullEdge : GraphState → EditRefusal → Type 0
+FullEdge s (edits.Gone x why) = ⊥
+FullEdge s (edits.Hidden x) = ⊥
+FullEdge s edits.FullNodes = ⊥
+FullEdge s edits.FullEdges = length s.edges ≡ 400000
+FullEdge s edits.Spent = (length s.edges < 400000) × (s.made_edges ≡ 16777215)
+FullEdge s edits.NoMemory = ⊥

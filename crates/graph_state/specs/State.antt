@@ -131,7 +131,7 @@ abbrev pub visible_in : GraphState → ℕ → List Dart
 visible_in s v = filter (shows_dart s) (in_list s v)
 
 -- the graph with no nodes and no edges, of which none was ever made
-abbrev pub empty_graph : Bool → GraphState
+unfoldable pub empty_graph : Bool → GraphState
 empty_graph directed = record {
   directed = directed;
   nodes = [];

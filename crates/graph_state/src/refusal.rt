@@ -1,7 +1,7 @@
 //! Why an edit or a look was refused.
 
 use item_pool::Gone;
-use leda_base::ItemName;
+use leda_base::{ItemName, NoMemory};
 
 /// Why an edit was refused. All is then as before.
 #[derive(Clone, Copy, Debug, PartialEq, Eq)]
@@ -27,4 +27,29 @@ pub enum LookRefusal {
     Gone(ItemName, Gone),
     /// The item isn't visible.
     Hidden(ItemName),
+}
+
+impl From<LookRefusal> for EditRefusal {
+    ghost use Rattle.std.specs.Prelude.{◌≡◌};
+    ghost use Rattle.graph_state.specs.Refused.{edit_of};
+
+    ghost from_gives = { λ why refusal. refusal ≡ edit_of why };
+
+    fn from(why: LookRefusal) -> EditRefusal {
+        match why {
+            LookRefusal::Gone(item, gone) => EditRefusal::Gone(item, gone),
+            LookRefusal::Hidden(item) => EditRefusal::Hidden(item),
+        }
+    }
+}
+
+impl From<NoMemory> for EditRefusal {
+    ghost use Rattle.std.specs.Prelude.{◌≡◌};
+    ghost use Rattle.graph_state.specs.Refused.{no_memory};
+
+    ghost from_gives = { λ _ refusal. refusal ≡ no_memory };
+
+    fn from(_: NoMemory) -> EditRefusal {
+        EditRefusal::NoMemory
+    }
 }
