@@ -5,14 +5,14 @@ use Rattle.item_ring.specs.RingLists.{RingLists, IsLinkedIn, StandsBetween}
 use Rattle.item_ring.specs.RingLists as ring
 use Rattle.graph_state.specs.declared.name.ListName.{ListName}
 use Rattle.graph_state.specs.declared.name.Element.{Element}
-use Rattle.graph_state.specs.Names.{Has, number}
+use Rattle.graph_state.specs.Names.{Has, number, first_of, last_of}
 use Rattle.graph_state.proofs.Has.{truth, filter_has, map_join, has_left, has_right, has_either, has_filter}
 use Rattle.graph_lists.specs.declared.token.Place.{Place}
-use Rattle.graph_lists.specs.Named.{Named, place_at, list_at, shows_at, seen_list, pick_head}
-use Rattle.graph_lists.specs.Heads.{IsHeadOf, IsMemberOf, Finds, first_of, last_of}
+use Rattle.graph_lists.specs.Named.{Named, place_at, list_at, shows_at, seen_list, pick_head, pick_member}
+use Rattle.graph_lists.specs.Heads.{IsHeadOf, IsMemberOf, Finds}
 use Rattle.graph_lists.specs.Heads as heads
 use Rattle.graph_lists.specs.Tied.{member, IsPlaced, AreTied}
-use Rattle.graph_lists.proofs.Rows.{member_is, ring_is, is_head, linked_in, linked_shown, some_head, placed_in}
+use Rattle.graph_lists.proofs.Rows.{same_member, member_is, ring_is, is_head, linked_in, linked_shown, some_head, placed_in}
 
 module _ (v : Named) (b : Bool) where
   member_of : (x : Element) → IsPlaced v x → IsMemberOf v b x (member v b x)
@@ -111,3 +111,7 @@ module _ (v : Named) (r : RingLists) (k : AreTied v r) where
       | inr n ↦ n ∙ sym f
     ]
   ]
+
+  -- a member is of one element
+  pub one_element : (m : ℕ) (b c : Bool) (x y : Element) → IsMemberOf v b x m → IsMemberOf v c y m → x ≡ y
+  one_element m b c x y w u = (same_member v r b c x y (pick_member b w.0) (pick_member c u.0) (k.members b x w.0 w.1.0) (k.members c y u.0 u.1.0) (w.1.1 ∙ sym u.1.1)).1

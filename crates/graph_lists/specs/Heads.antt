@@ -1,5 +1,5 @@
 -- What a look starts from, and what it finds.
-use Rattle.std.specs.Prelude.{◌≡◌, ℕ, Bool, List, [], ◌∷◌, Option, Some, None}
+use Rattle.std.specs.Prelude.{◌≡◌, ℕ, Bool, Option, Some, None}
 use Rattle.graph_state.specs.declared.name.ListName.{ListName}
 use Rattle.graph_state.specs.declared.name.Element.{Element}
 use Rattle.graph_state.specs.Names.{Has}
@@ -25,14 +25,3 @@ Finds v b (Some m) (Some x) = IsMemberOf v b x m
 -- the member is linked into one of the rings
 abbrev pub IsLinked : Named → ℕ → Type 0
 IsLinked v m = (b : Bool) × ((l : ListName) × ((x : Element) × (Has x (seen_list v b l) × IsMemberOf v b x m)))
-
--- the first and the last of the list
-module _ {X : Type 0} where
-  abbrev pub first_of : List X → Option X
-  first_of [] = None
-  first_of (x ∷ xs) = Some x
-
-  abbrev pub last_of : List X → Option X
-  last_of [] = None
-  last_of (x ∷ []) = Some x
-  last_of (x ∷ y ∷ ys) = last_of (y ∷ ys)

@@ -1,12 +1,12 @@
 //! Lists by names.
-ghost use Rattle.std.specs.Prelude.{◌≡◌, ℕ, Bool, true, false, ◌+◌, ◌-◌, ◌*◌, ◌<◌, ◌≤◌, ◌↔◌, List, [], ◌∷◌, ◌++◌, Option, Some, None, IsTrue, OnOk, OnErr};
+ghost use Rattle.std.specs.Prelude.{◌≡◌, ℕ, Bool, true, false, ◌+◌, ◌-◌, ◌*◌, ◌<◌, ◌≤◌, ◌↔◌, List, [], ◌∷◌, ◌++◌, Option, Some, None, length, OnOk};
 ghost use Rattle.std.specs.FinMap as map;
 ghost use Rattle.item_ring.specs.RingLists.{IsHead, IsLoose};
 ghost use Rattle.graph_state.specs.declared.name.ListName.{ListName};
 ghost use Rattle.graph_state.specs.declared.name.Element.{Element};
-ghost use Rattle.graph_state.specs.Names.{Has, number};
+ghost use Rattle.graph_state.specs.Names.{Has, number, first_of, last_of};
 ghost use Rattle.graph_lists.specs.Named.{head_at, place_at, list_at, shows_at, seen_list, nothing_named, listed, unlisted, placed, unplaced, pushed, put_behind, put_before, unlinked, marked, SameRoom, IsFirstShown, IsNextShown};
-ghost use Rattle.graph_lists.specs.Heads.{IsHeadOf, IsMemberOf, IsLinked, Finds, first_of, last_of};
+ghost use Rattle.graph_lists.specs.Heads.{IsHeadOf, IsMemberOf, IsLinked, Finds};
 ghost use Rattle.graph_lists.specs.Steps.{AddsHead, AddsMember, PushesIf, UnlinksIf};
 
 use crate::seen::{NamedView, show, show_element, show_list, show_mark};
@@ -303,9 +303,20 @@ impl Lists {
     /// The number of the element that the member is of.
     pub fn number(&self, m: Member) -> u32
         requires { (b : Bool) × ((x : Element) × IsMemberOf self.now.named b x m) }
-        ensures { (b : Bool) (x : Element) → IsMemberOf self.now.named b x m → result ≡ number x }
+        ensures number { (b : Bool) (x : Element) → IsMemberOf self.now.named b x m → result ≡ number x }
+        ensures one { (b c : Bool) (x y : Element)
+            → IsMemberOf self.now.named b x m → IsMemberOf self.now.named c y m → x ≡ y }
     {
         self.rings.tag(m)
+    }
+
+    /// How many elements there are in the ring: in a list, or of it those that show.
+    pub fn len(&self, head: Head) -> u32
+        requires { (b : Bool) × ((l : ListName) × IsHeadOf self.now.named b l head) }
+        ensures { (b : Bool) (l : ListName) → IsHeadOf self.now.named b l head
+            → result ≡ length (seen_list self.now.named b l) }
+    {
+        self.rings.len(head)
     }
 
     /// The first member of the ring: of all elements of a list, or of those that show.

@@ -3,8 +3,9 @@ use Rattle.std.proofs.Common.{Bool, sym, ap, subst, ◌∙◌}
 use Rattle.item_ring.specs.RingLists.{RingLists, IsLinkedIn, IsLoose}
 use Rattle.item_ring.specs.RingLists as ring
 use Rattle.graph_state.specs.declared.name.ListName.{ListName}
+use Rattle.graph_state.specs.Names.{last_of}
 use Rattle.graph_lists.specs.Named.{Lists, seen_list}
-use Rattle.graph_lists.specs.Heads.{IsHeadOf, Finds, last_of}
+use Rattle.graph_lists.specs.Heads.{IsHeadOf, Finds}
 use Rattle.graph_lists.proofs.Looks.{finds_last, head_there, ring_at, placed_at}
 use Rattle.graph_lists.proofs.lists.Lists.last.Goals as goal
 

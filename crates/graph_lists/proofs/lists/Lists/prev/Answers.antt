@@ -1,8 +1,8 @@
 -- Neighbours in the ring are neighbours in the list.
 use Rattle.std.proofs.Common.{◌≡◌, ◌∷◌, ◌++◌, map, sym, subst}
-use Rattle.graph_state.specs.Names.{behind, before}
+use Rattle.graph_state.specs.Names.{behind, before, last_of}
 use Rattle.graph_lists.specs.Named.{Lists, seen_list}
-use Rattle.graph_lists.specs.Heads.{IsHeadOf, IsMemberOf, Finds, first_of, last_of}
+use Rattle.graph_lists.specs.Heads.{IsHeadOf, IsMemberOf, Finds}
 use Rattle.graph_lists.specs.Heads as heads
 use Rattle.graph_lists.specs.Tied.{member}
 use Rattle.graph_lists.proofs.Looks.{member_linked, stands, finds_prev}
