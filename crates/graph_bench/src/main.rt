@@ -1,5 +1,5 @@
-//! Times a graph of 100,000 nodes and 400,000 edges. Given the word `graph` it prints the microseconds of each step, a
-//! line for each, and a sum of what it saw; with none it does nothing.
+//! Times a graph of 100,000 nodes and 400,000 edges. Given the word `graph` it prints the
+//! microseconds of each step, a line for each, and a sum of what it saw; with none it does nothing.
 #![tactic(auto)]
 
 mod build;

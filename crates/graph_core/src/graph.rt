@@ -100,7 +100,8 @@ impl Graph {
     ///
     /// `Dead` where the number was given and the node is gone, and `Unknown` where it wasn't given.
     pub fn node_item(&self, number: u32) -> Result<NodeItem, Gone>
-        ensures { MatchResult result (λ v. (v.0.serial ≡ number) × IsThere self.now (names.Node number))
+        ensures { MatchResult result
+            (λ v. (v.0.serial ≡ number) × IsThere self.now (names.Node number))
             (IsGone self.now (names.Node number)) }
     {
         match self.nodes.item(number) {
@@ -115,7 +116,8 @@ impl Graph {
     ///
     /// As those of `node_item`.
     pub fn edge_item(&self, number: u32) -> Result<EdgeItem, Gone>
-        ensures { MatchResult result (λ e. (e.0.serial ≡ number) × IsThere self.now (names.Edge number))
+        ensures { MatchResult result
+            (λ e. (e.0.serial ≡ number) × IsThere self.now (names.Edge number))
             (IsGone self.now (names.Edge number)) }
     {
         match self.edges.item(number) {

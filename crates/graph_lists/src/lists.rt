@@ -17,7 +17,8 @@ use leda_base::{NoMemory, Seen};
 use std::alloc::Global;
 use std::marker::Model;
 
-/// The lists of a graph. A contract sees which lists and elements are there, what stands in each list, and what shows.
+/// The lists of a graph. A contract sees which lists and elements are there, what stands in each
+/// list, and what shows.
 #[derive(Drop)]
 pub struct Lists {
     rings: Rings,
@@ -131,8 +132,10 @@ impl Lists {
         requires few { self.old.heads + 2 ≤ 16777215 }
         requires fresh { head_at self.old.named list ≡ None }
         ensures named { self.new.named ≡ listed list result self.old.named }
-        ensures heads { (self.new.heads ≡ self.old.heads + 2) × (self.new.spare_heads + 2 ≡ self.old.spare_heads) }
-        ensures members { (self.new.members ≡ self.old.members) × (self.new.spare_members ≡ self.old.spare_members) }
+        ensures heads { (self.new.heads ≡ self.old.heads + 2)
+            × (self.new.spare_heads + 2 ≡ self.old.spare_heads) }
+        ensures members { (self.new.members ≡ self.old.members)
+            × (self.new.spare_members ≡ self.old.spare_members) }
     {
         let full = add_head(&mut self.rings);
         let shown = add_head(&mut self.rings);
@@ -147,8 +150,10 @@ impl Lists {
         requires few { self.old.members + 2 ≤ 16777215 }
         requires fresh { place_at self.old.named x ≡ None }
         ensures named { self.new.named ≡ placed x result self.old.named }
-        ensures members { (self.new.members ≡ self.old.members + 2) × (self.new.spare_members + 2 ≡ self.old.spare_members) }
-        ensures heads { (self.new.heads ≡ self.old.heads) × (self.new.spare_heads ≡ self.old.spare_heads) }
+        ensures members { (self.new.members ≡ self.old.members + 2)
+            × (self.new.spare_members + 2 ≡ self.old.spare_members) }
+        ensures heads { (self.new.heads ≡ self.old.heads)
+            × (self.new.spare_heads ≡ self.old.spare_heads) }
     {
         let full = add_member(&mut self.rings, number(x));
         let shown = add_member(&mut self.rings, number(x));
@@ -157,7 +162,8 @@ impl Lists {
         place
     }
 
-    /// The element, which stands nowhere, goes to the end of the list. `shows` says whether it shows.
+    /// The element, which stands nowhere, goes to the end of the list. `shows` says whether it
+    /// shows.
     pub fn push_back(
         &mut self,
         list: ListName,
@@ -303,7 +309,8 @@ impl Lists {
     /// The number of the element that the member is of.
     pub fn number(&self, m: Member) -> u32
         requires { (b : Bool) × ((x : Element) × IsMemberOf self.now.named b x m) }
-        ensures number { (b : Bool) (x : Element) → IsMemberOf self.now.named b x m → result ≡ number x }
+        ensures number { (b : Bool) (x : Element)
+            → IsMemberOf self.now.named b x m → result ≡ number x }
         ensures one { (b c : Bool) (x y : Element)
             → IsMemberOf self.now.named b x m → IsMemberOf self.now.named c y m → x ≡ y }
     {
@@ -340,7 +347,7 @@ impl Lists {
     /// The member behind in its ring.
     pub fn next(&self, m: Member) -> Option<Member>
         requires { IsLinked self.now.named m }
-        ensures { (b : Bool) (l : ListName) (x : Element) (before : List Element) (behind : List Element)
+        ensures { (b : Bool) (l : ListName) (x : Element) (before behind : List Element)
             → IsMemberOf self.now.named b x m → seen_list self.now.named b l ≡ before ++ x ∷ behind
             → Finds self.now.named b result (first_of behind) }
     {
@@ -350,7 +357,7 @@ impl Lists {
     /// The member before in its ring.
     pub fn prev(&self, m: Member) -> Option<Member>
         requires { IsLinked self.now.named m }
-        ensures { (b : Bool) (l : ListName) (x : Element) (before : List Element) (behind : List Element)
+        ensures { (b : Bool) (l : ListName) (x : Element) (before behind : List Element)
             → IsMemberOf self.now.named b x m → seen_list self.now.named b l ≡ before ++ x ∷ behind
             → Finds self.now.named b result (last_of before) }
     {
@@ -360,7 +367,7 @@ impl Lists {
     /// The member behind in its ring, and the first behind the last.
     pub fn cyclic_next(&self, m: Member) -> Member
         requires { IsLinked self.now.named m }
-        ensures { (b : Bool) (l : ListName) (x : Element) (before : List Element) (behind : List Element)
+        ensures { (b : Bool) (l : ListName) (x : Element) (before behind : List Element)
             → IsMemberOf self.now.named b x m → seen_list self.now.named b l ≡ before ++ x ∷ behind
             → Finds self.now.named b (Some result) (first_of (behind ++ before ++ x ∷ [])) }
     {
@@ -370,7 +377,7 @@ impl Lists {
     /// The member before in its ring, and the last before the first.
     pub fn cyclic_prev(&self, m: Member) -> Member
         requires { IsLinked self.now.named m }
-        ensures { (b : Bool) (l : ListName) (x : Element) (before : List Element) (behind : List Element)
+        ensures { (b : Bool) (l : ListName) (x : Element) (before behind : List Element)
             → IsMemberOf self.now.named b x m → seen_list self.now.named b l ≡ before ++ x ∷ behind
             → Finds self.now.named b (Some result) (last_of (x ∷ behind ++ before)) }
     {

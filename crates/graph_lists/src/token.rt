@@ -9,7 +9,8 @@ pub struct ListHead {
     pub shown: Head,
 }
 
-/// The members of an element: that in the ring of all elements, and that in the ring of those that show.
+/// The members of an element: that in the ring of all elements, and that in the ring of those that
+/// show.
 #[derive(Clone, Copy, Drop)]
 pub struct Place {
     pub full: Member,

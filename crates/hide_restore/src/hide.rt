@@ -24,11 +24,13 @@ pub enum RestoreRefusal {
     NotHidden,
 }
 
-/// Hides an edge. An edge of which an end is hidden can be hidden by itself too. It takes no memory.
+/// Hides an edge. An edge of which an end is hidden can be hidden by itself too. It takes no
+/// memory.
 ///
 /// # Errors
 ///
-/// `Gone` where the edge is dead or unknown, and else `AlreadyHidden` exactly where it is hidden by itself.
+/// `Gone` where the edge is dead or unknown, and else `AlreadyHidden` exactly where it is hidden by
+/// itself.
 pub fn hide_edge(g: &mut Graph, e: EdgeItem) -> Result<(), HideRefusal>
     ensures unhidden { OnOk result (set.contains g.old.hidden_edges e.0.serial ≡ false) }
     ensures state { OnOk result (g.new ≡ edge_hidden e.0.serial g.old) }
@@ -45,12 +47,13 @@ pub fn hide_edge(g: &mut Graph, e: EdgeItem) -> Result<(), HideRefusal>
     Ok(())
 }
 
-/// Restores an edge to the place that it has kept in each list. It shows again where both its ends do. It takes no
-/// memory.
+/// Restores an edge to the place that it has kept in each list. It shows again where both its ends
+/// do. It takes no memory.
 ///
 /// # Errors
 ///
-/// `Gone` where the edge is dead or unknown, and else `NotHidden` exactly where it isn't hidden by itself.
+/// `Gone` where the edge is dead or unknown, and else `NotHidden` exactly where it isn't hidden by
+/// itself.
 pub fn restore_edge(g: &mut Graph, e: EdgeItem) -> Result<(), RestoreRefusal>
     ensures hidden { OnOk result (set.contains g.old.hidden_edges e.0.serial ≡ true) }
     ensures state { OnOk result (g.new ≡ edge_restored e.0.serial g.old) }

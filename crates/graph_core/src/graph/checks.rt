@@ -71,7 +71,8 @@ impl Graph {
 
     /// Refuses two nodes of which one isn't visible.
     pub(super) fn see_ends(&self, v: NodeItem, w: NodeItem) -> Result<(), LookRefusal>
-        ensures { MatchResult result (λ _. AreVisible self.now (names.Node v.0.serial ∷ names.Node w.0.serial ∷ []))
+        ensures { MatchResult result
+            (λ _. AreVisible self.now (names.Node v.0.serial ∷ names.Node w.0.serial ∷ []))
             (RefusesLook self.now (names.Node v.0.serial ∷ names.Node w.0.serial ∷ [])) }
     {
         let from = self.live_node(v)?;

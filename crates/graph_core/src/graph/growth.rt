@@ -118,7 +118,8 @@ fn enter_edge(
     requires edges { head_at lists.old.named Edges ≡ Some head.now }
     requires outs { head_at lists.old.named (Out ends.from) ≡ Some outs.now }
     requires ins { head_at lists.old.named ends.row ≡ Some ins.now }
-    ensures { EntersEdge lists.old lists.new edges.old edges.new ends.row ends.from ends.to label result }
+    ensures { EntersEdge lists.old lists.new edges.old edges.new
+        ends.row ends.from ends.to label result }
 {
     let e = edges.made() + 1;
     let front = Element::End(Dart {
@@ -152,8 +153,8 @@ impl Graph {
     ///
     /// # Errors
     ///
-    /// `FullNodes` exactly where there are 100,000 nodes, else `Spent` exactly where 16,777,215 were made, and
-    /// `NoMemory` where there is no memory. The label is then dropped.
+    /// `FullNodes` exactly where there are 100,000 nodes, else `Spent` exactly where 16,777,215
+    /// were made, and `NoMemory` where there is no memory. The label is then dropped.
     pub fn new_node(&mut self, label: Row<u8>) -> Result<NodeItem, EditRefusal>
         requires { IsLabel label }
         ensures room { OnOk result (NodeRoom self.old) }
@@ -175,14 +176,16 @@ impl Graph {
         Ok(NodeItem(item))
     }
 
-    /// A new edge from v to w with the label, at the rear of the edge list. Its front dart goes to the rear of the out
-    /// list of v, and its back dart to the rear of the in list of w, or of the out list in an undirected graph.
+    /// A new edge from v to w with the label, at the rear of the edge list. Its front dart goes to
+    /// the rear of the out list of v, and its back dart to the rear of the in list of w, or of the
+    /// out list in an undirected graph.
     ///
     /// # Errors
     ///
-    /// `Gone` for the leftmost node that is dead or unknown, else `Hidden` for the leftmost one that isn't visible. Else
-    /// `FullEdges` exactly where there are 400,000 edges, else `Spent` exactly where 16,777,215 were made, and
-    /// `NoMemory` where there is no memory. The label is then dropped.
+    /// `Gone` for the leftmost node that is dead or unknown, else `Hidden` for the leftmost one
+    /// that isn't visible. Else `FullEdges` exactly where there are 400,000 edges, else `Spent`
+    /// exactly where 16,777,215 were made, and `NoMemory` where there is no memory. The label is
+    /// then dropped.
     pub fn new_edge(
         &mut self,
         v: NodeItem,
@@ -190,7 +193,8 @@ impl Graph {
         label: Row<u8>,
     ) -> Result<EdgeItem, EditRefusal>
         requires { IsLabel label }
-        ensures visible { OnOk result (AreVisible self.old (names.Node v.0.serial ∷ names.Node w.0.serial ∷ [])) }
+        ensures visible { OnOk result
+            (AreVisible self.old (names.Node v.0.serial ∷ names.Node w.0.serial ∷ [])) }
         ensures room { OnOk result (EdgeRoom self.old) }
         ensures item { IfOk result (λ e. e.0.serial ≡ self.old.made_edges + 1) }
         ensures state { OnOk result (self.new ≡ with_edge v.0.serial w.0.serial label self.old) }

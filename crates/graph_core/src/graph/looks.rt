@@ -19,7 +19,8 @@ use item_pool::Pool;
 /// The item of the edge that the member is of.
 pub(super) fn edge_at(lists: &Lists, edges: &Pool<EdgeCell>, m: Member) -> EdgeItem
     requires { HasEdge lists.now edges.now m }
-    ensures { (b : Bool) (x : Element) → IsMemberOf lists.now.named b x m → result.0.serial ≡ number x }
+    ensures { (b : Bool) (x : Element)
+        → IsMemberOf lists.now.named b x m → result.0.serial ≡ number x }
 {
     match edges.item(lists.number(m)) {
         Ok(item) => EdgeItem(item),
@@ -138,7 +139,8 @@ impl Graph {
         Ok(may_edge_at(&self.lists, &self.edges, last))
     }
 
-    /// The edge behind e in the visible out list of its source, and none exactly where e is the last.
+    /// The edge behind e in the visible out list of its source, and none exactly where e is the
+    /// last.
     ///
     /// # Errors
     ///
@@ -156,7 +158,8 @@ impl Graph {
         Ok(may_edge_at(&self.lists, &self.edges, next))
     }
 
-    /// The edge before e in the visible out list of its source, and none exactly where e is the first.
+    /// The edge before e in the visible out list of its source, and none exactly where e is the
+    /// first.
     ///
     /// # Errors
     ///

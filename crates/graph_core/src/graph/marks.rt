@@ -82,8 +82,9 @@ fn element_at<'a>(
     m: Member,
 ) -> (Element, &'a Place)
     requires { HasToken lists.now.named edges.now list m }
-    ensures { (x : Element) → Has x (list_at lists.now.named list) → IsMemberOf lists.now.named false x m
-        → IsToken lists.now.named edges.now list x → (result.0 ≡ x) × (place_at lists.now.named x ≡ Some result.1.now) }
+    ensures { (x : Element) → Has x (list_at lists.now.named list)
+        → IsMemberOf lists.now.named false x m → IsToken lists.now.named edges.now list x
+        → (result.0 ≡ x) × (place_at lists.now.named x ≡ Some result.1.now) }
 {
     let e = lists.number(m);
     let Ok(cell) = edges.get(Item { slot: 0, serial: e }) else {
@@ -110,7 +111,8 @@ fn element_at<'a>(
     )
 }
 
-/// The nearest element before x in its list that shows, with its place, and none where no such element shows.
+/// The nearest element before x in its list that shows, with its place, and none where no such
+/// element shows.
 fn nearest<'a>(
     lists: &Lists,
     edges: &'a Pool<EdgeCell>,
@@ -124,7 +126,8 @@ fn nearest<'a>(
     requires there { Has x (list_at lists.now.named list) }
     requires tokens { HasTokens lists.now.named edges.now list }
     ensures { MatchOption result (IsFirstShown lists.now.named list x)
-        (λ y. IsNextShown lists.now.named list y.0 x × (place_at lists.now.named y.0 ≡ Some y.1.now)) }
+        (λ y. IsNextShown lists.now.named list y.0 x
+        × (place_at lists.now.named y.0 ≡ Some y.1.now)) }
 {
     let mut at = lists.prev(place.full);
     for _turn in 0..lists.len(head.full) {
@@ -240,7 +243,8 @@ impl Graph {
         }
     }
 
-    /// Hides an edge, which isn't hidden by itself. It keeps its place in every list. It takes no memory.
+    /// Hides an edge, which isn't hidden by itself. It keeps its place in every list. It takes no
+    /// memory.
     pub fn hide_edge(&mut self, e: EdgeItem)
         requires live { IsThere self.old (names.Edge e.0.serial) }
         requires unhidden { set.contains self.old.hidden_edges e.0.serial ≡ false }
@@ -254,8 +258,9 @@ impl Graph {
         show(&mut self.seen, e.0.serial, 0, 0);
     }
 
-    /// Restores an edge, which is hidden by itself, to the place that it has kept. It takes no memory, and time linear in
-    /// the hidden elements between it and the nearest one before it that shows, list by list.
+    /// Restores an edge, which is hidden by itself, to the place that it has kept. It takes no
+    /// memory, and time linear in the hidden elements between it and the nearest one before it that
+    /// shows, list by list.
     pub fn restore_edge(&mut self, e: EdgeItem)
         requires live { IsThere self.old (names.Edge e.0.serial) }
         requires hidden { set.contains self.old.hidden_edges e.0.serial ≡ true }

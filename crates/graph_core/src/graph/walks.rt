@@ -25,7 +25,8 @@ use std::alloc::Global;
 /// The item of the node that the member is of.
 fn node_at(lists: &Lists, nodes: &Pool<NodeCell>, m: Member) -> NodeItem
     requires { HasNode lists.now nodes.now m }
-    ensures { (b : Bool) (x : Element) → IsMemberOf lists.now.named b x m → result.0.serial ≡ number x }
+    ensures { (b : Bool) (x : Element)
+        → IsMemberOf lists.now.named b x m → result.0.serial ≡ number x }
 {
     match nodes.item(lists.number(m)) {
         Ok(item) => NodeItem(item),
@@ -84,7 +85,8 @@ impl Graph {
     ///
     /// `NoMemory` where there is no memory.
     pub fn nodes(&self, alloc: Global) -> Result<Row<NodeItem>, NoMemory>
-        ensures { IfOk result (λ row. map (λ (v : NodeItem). v.0.serial) row ≡ visible_nodes self.now) }
+        ensures { IfOk result
+            (λ row. map (λ (v : NodeItem). v.0.serial) row ≡ visible_nodes self.now) }
     {
         match &self.heads {
             Some(heads) => nodes_in(alloc, &self.lists, &self.nodes, heads.nodes.shown),
@@ -98,7 +100,8 @@ impl Graph {
     ///
     /// `NoMemory` where there is no memory.
     pub fn edges(&self, alloc: Global) -> Result<Row<EdgeItem>, NoMemory>
-        ensures { IfOk result (λ row. map (λ (e : EdgeItem). e.0.serial) row ≡ visible_edges self.now) }
+        ensures { IfOk result
+            (λ row. map (λ (e : EdgeItem). e.0.serial) row ≡ visible_edges self.now) }
     {
         match &self.heads {
             Some(heads) => edges_in(alloc, &self.lists, &self.edges, heads.edges.shown),
@@ -106,11 +109,13 @@ impl Graph {
         }
     }
 
-    /// The edges of the visible out list of the node: in an undirected graph a loop stands there twice.
+    /// The edges of the visible out list of the node: in an undirected graph a loop stands there
+    /// twice.
     ///
     /// # Errors
     ///
-    /// `Gone` where the node is dead or unknown, `Hidden` where it isn't visible, and `NoMemory` where there is no memory.
+    /// `Gone` where the node is dead or unknown, `Hidden` where it isn't visible, and `NoMemory`
+    /// where there is no memory.
     pub fn out_edges(&self, alloc: Global, v: NodeItem) -> Result<Row<EdgeItem>, EditRefusal>
         ensures visible { OnOk result (AreVisible self.now (names.Node v.0.serial ∷ [])) }
         ensures edges { IfOk result (λ row. map (λ (e : EdgeItem). e.0.serial) row
