@@ -71,7 +71,8 @@ abbrev pub top_heads : Option Heads → ℕ
 top_heads None = 0
 top_heads (Some h) = 4
 
-pub record IsKept (s : GraphState) (t : Lists) (top : Option Heads) (p : NodeCells) (q : EdgeCells) : Type 0 where
+pub record IsKept (s : GraphState) (t : Lists) (top : Option Heads) (p : NodeCells)
+    (q : EdgeCells) : Type 0 where
   pub heads : (l : ListName) → head_at t.named l ≡ heads_of top p l
   pub places : (x : Element) → place_at t.named x ≡ place_of p q x
   pub lists : (l : ListName) → list_at t.named l ≡ list_of s l

@@ -18,17 +18,21 @@ StandsBetween s e before behind = visible_out s (source s e) ≡ before ++ front
 
 -- the neighbours of the front dart of e in that list
 abbrev pub IsBehind : GraphState → ℕ → Option EdgeItem → Type 0
-IsBehind s e r = (before behind : List Dart) → StandsBetween s e before behind → IsEdgeOf r (first_of behind)
+IsBehind s e r = (before behind : List Dart) → StandsBetween s e before behind
+    → IsEdgeOf r (first_of behind)
 
 abbrev pub IsBefore : GraphState → ℕ → Option EdgeItem → Type 0
-IsBefore s e r = (before behind : List Dart) → StandsBetween s e before behind → IsEdgeOf r (last_of before)
+IsBefore s e r = (before behind : List Dart) → StandsBetween s e before behind
+    → IsEdgeOf r (last_of before)
 
 -- the same round the ends: behind the last stands the first
 abbrev pub IsCyclicBehind : GraphState → ℕ → EdgeItem → Type 0
-IsCyclicBehind s e r = (before behind : List Dart) → StandsBetween s e before behind → IsEdgeOf (Some r) (first_of (behind ++ before ++ front e ∷ []))
+IsCyclicBehind s e r = (before behind : List Dart) → StandsBetween s e before behind
+    → IsEdgeOf (Some r) (first_of (behind ++ before ++ front e ∷ []))
 
 abbrev pub IsCyclicBefore : GraphState → ℕ → EdgeItem → Type 0
-IsCyclicBefore s e r = (before behind : List Dart) → StandsBetween s e before behind → IsEdgeOf (Some r) (last_of (front e ∷ behind ++ before))
+IsCyclicBefore s e r = (before behind : List Dart) → StandsBetween s e before behind
+    → IsEdgeOf (Some r) (last_of (front e ∷ behind ++ before))
 
 -- whether a node or an edge is hidden by itself
 abbrev pub is_marked : GraphState → ItemName → Bool

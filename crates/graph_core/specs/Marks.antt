@@ -35,7 +35,8 @@ pub record MarksParts (n m : Named) (e : ℕ) (b : Bool) : Type 0 where
   pub edge : shows_at m (Edge e) ≡ b
   pub first : shows_at m (End (front e)) ≡ b
   pub second : shows_at m (End (back e)) ≡ b
-  pub else : (y : Element) → (y ≡ Edge e → ⊥) → (y ≡ End (front e) → ⊥) → (y ≡ End (back e) → ⊥) → shows_at m y ≡ shows_at n y
+  pub else : (y : Element) → (y ≡ Edge e → ⊥) → (y ≡ End (front e) → ⊥) → (y ≡ End (back e) → ⊥)
+      → shows_at m y ≡ shows_at n y
 
 -- they are changed where the flag says so
 abbrev pub MarksIf : Bool → Named → Named → ℕ → Type 0
@@ -83,9 +84,11 @@ HasTokens n q l = (x : Element) → Has x (list_at n l) → IsToken n q l x
 
 -- the member is that of an element of the list
 abbrev pub HasToken : Named → Contents EdgeCell → ListName → ℕ → Type 0
-HasToken n q l m = (x : Element) × (Has x (list_at n l) × (IsMemberOf n false x m × IsToken n q l x))
+HasToken n q l m = (x : Element)
+    × (Has x (list_at n l) × (IsMemberOf n false x m × IsToken n q l x))
 
--- a walk to the front of a list: what was passed doesn't show, and the member is that of the element before
+-- a walk to the front of a list: what was passed doesn't show, and the member is that of the
+-- element before
 pub record Passes (n : Named) (l : ListName) (x : Element) (turn : ℕ) (at : Option ℕ) : Type 0 where
   pub before : List Element
   pub between : List Element
@@ -95,8 +98,10 @@ pub record Passes (n : Named) (l : ListName) (x : Element) (turn : ℕ) (at : Op
   pub counted : length between ≡ turn
   pub finds : Finds n false at (last_of before)
 
--- what there is to show an edge by: the heads of its lists, its places, and those of all that stands in lists
-pub record CanShow (n : Named) (p : Contents NodeCell) (q : Contents EdgeCell) (edges : ListHead) (directed : Bool) (e : ℕ) (c : EdgeCell) : Type 0 where
+-- what there is to show an edge by: the heads of its lists, its places, and those of all that
+-- stands in lists
+pub record CanShow (n : Named) (p : Contents NodeCell) (q : Contents EdgeCell) (edges : ListHead)
+    (directed : Bool) (e : ℕ) (c : EdgeCell) : Type 0 where
   pub from : NodeCell
   pub to : NodeCell
   pub at_from : map.get p.live c.from ≡ Some from
@@ -112,4 +117,5 @@ pub record CanShow (n : Named) (p : Contents NodeCell) (q : Contents EdgeCell) (
 
 -- the edge and its darts show, where both ends do
 abbrev pub ShowsParts : Named → Named → Contents NodeCell → ℕ → EdgeCell → Type 0
-ShowsParts n m p e c = (v w : NodeCell) → map.get p.live c.from ≡ Some v → map.get p.live c.to ≡ Some w → MarksIf (not v.is_hidden && not w.is_hidden) n m e
+ShowsParts n m p e c = (v w : NodeCell) → map.get p.live c.from ≡ Some v
+    → map.get p.live c.to ≡ Some w → MarksIf (not v.is_hidden && not w.is_hidden) n m e

@@ -19,17 +19,23 @@ MayHaveEdge t q (Some m) = HasEdge t q m
 
 -- every element of the ring is that of an edge that is there, or of an end of one
 abbrev pub HasEdges : Lists → Contents EdgeCell → ℕ → Type 0
-HasEdges t q g = (b : Bool) × ((l : ListName) × (IsHeadOf t.named b l g × ((x : Element) → Has x (seen_list t.named b l) → HasLive q (number x))))
+HasEdges t q g = (b : Bool)
+    × ((l : ListName) × (IsHeadOf t.named b l g
+    × ((x : Element) → Has x (seen_list t.named b l) → HasLive q (number x))))
 
 -- the same of nodes
 abbrev pub HasNode : Lists → Contents NodeCell → ℕ → Type 0
 HasNode t q m = (b : Bool) × ((x : Element) × (IsMemberOf t.named b x m × HasLive q (number x)))
 
 abbrev pub HasNodes : Lists → Contents NodeCell → ℕ → Type 0
-HasNodes t q g = (b : Bool) × ((l : ListName) × (IsHeadOf t.named b l g × ((x : Element) → Has x (seen_list t.named b l) → HasLive q (number x))))
+HasNodes t q g = (b : Bool)
+    × ((l : ListName) × (IsHeadOf t.named b l g
+    × ((x : Element) → Has x (seen_list t.named b l) → HasLive q (number x))))
 
--- a walk along a ring: the elements taken, whose values are in the row, those that are left, and the member of the first of these
-pub record Walks {I V : Type 0} (value : I → V) (of : Element → V) (v : Named) (b : Bool) (xs : List Element) (row : List I) (count : ℕ) (at : Option ℕ) : Type 0 where
+-- a walk along a ring: the elements taken, whose values are in the row, those that are left, and
+-- the member of the first of these
+pub record Walks {I V : Type 0} (value : I → V) (of : Element → V) (v : Named) (b : Bool)
+    (xs : List Element) (row : List I) (count : ℕ) (at : Option ℕ) : Type 0 where
   pub taken : List Element
   pub rest : List Element
   pub is : xs ≡ taken ++ rest

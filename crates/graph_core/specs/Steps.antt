@@ -42,14 +42,23 @@ pub record CanEnterNode (t : Lists) (p : Contents NodeCell) (head : ListHead) : 
   pub no_place : place_at t.named (Node (p.made + 1)) ≡ None
   pub nodes : head_at t.named Nodes ≡ Some head
 
-pub record EntersNode (t u : Lists) (p q : Contents NodeCell) (head : ListHead) (label : List ℕ) (it : Item) : Type 0 where
+pub record EntersNode (t u : Lists) (p q : Contents NodeCell) (head : ListHead) (label : List ℕ)
+    (it : Item) : Type 0 where
   pub outs : ListHead
   pub ins : ListHead
   pub place : Place
-  pub named : u.named ≡ pushed Nodes (Node (p.made + 1)) (placed (Node (p.made + 1)) place (listed (In (p.made + 1)) ins (listed (Out (p.made + 1)) outs t.named)))
+  pub named : u.named ≡ pushed Nodes (Node (p.made + 1))
+      (placed (Node (p.made + 1)) place
+      (listed (In (p.made + 1)) ins (listed (Out (p.made + 1)) outs t.named)))
   pub heads : u.heads ≡ t.heads + 4
   pub members : u.members ≡ t.members + 2
-  pub inserts : Inserts p q it (record { label = label; is_hidden = false; place = place; outs = outs; ins = ins })
+  pub inserts : Inserts p q it (record {
+    label = label;
+    is_hidden = false;
+    place = place;
+    outs = outs;
+    ins = ins;
+  })
 
 -- there is room for an edge, whose three places aren't there yet
 pub record CanEnterEdge (t : Lists) (q : Contents EdgeCell) : Type 0 where
@@ -61,18 +70,33 @@ pub record CanEnterEdge (t : Lists) (q : Contents EdgeCell) : Type 0 where
 
 -- the three places are there
 abbrev pub with_places : ℕ → Place → Place → Place → Named → Named
-with_places k edge f b n = placed (End (back k)) b (placed (End (front k)) f (placed (Edge k) edge n))
+with_places k edge f b n =
+    placed (End (back k)) b (placed (End (front k)) f (placed (Edge k) edge n))
 
 -- the next number has a cell
-abbrev pub InsertsEdge : Contents EdgeCell → Contents EdgeCell → ℕ → ℕ → List ℕ → Place → Place → Place → Item → Type 0
-InsertsEdge p q v w label edge f b it = Inserts p q it (record { label = label; from = v; to = w; reversal = None; is_hidden = false; place = edge; front = f; back = b })
+abbrev pub InsertsEdge : Contents EdgeCell → Contents EdgeCell → ℕ → ℕ → List ℕ → Place → Place
+    → Place → Item → Type 0
+InsertsEdge p q v w label edge f b it =
+    Inserts p q it (record {
+      label = label;
+      from = v;
+      to = w;
+      reversal = None;
+      is_hidden = false;
+      place = edge;
+      front = f;
+      back = b;
+    })
 
 -- an edge comes, with its darts at the rear of the lists
-pub record EntersEdge (t u : Lists) (p q : Contents EdgeCell) (row : ListName) (v w : ℕ) (label : List ℕ) (it : Item) : Type 0 where
+pub record EntersEdge (t u : Lists) (p q : Contents EdgeCell) (row : ListName) (v w : ℕ)
+    (label : List ℕ) (it : Item) : Type 0 where
   pub edge : Place
   pub first : Place
   pub second : Place
-  pub named : u.named ≡ pushed row (End (back (p.made + 1))) (pushed (Out v) (End (front (p.made + 1))) (pushed Edges (Edge (p.made + 1)) (with_places (p.made + 1) edge first second t.named)))
+  pub named : u.named ≡ pushed row (End (back (p.made + 1)))
+      (pushed (Out v) (End (front (p.made + 1)))
+      (pushed Edges (Edge (p.made + 1)) (with_places (p.made + 1) edge first second t.named)))
   pub heads : u.heads ≡ t.heads
   pub members : u.members ≡ t.members + 6
   pub inserts : InsertsEdge p q v w label edge first second it

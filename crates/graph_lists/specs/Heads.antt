@@ -24,4 +24,5 @@ Finds v b (Some m) (Some x) = IsMemberOf v b x m
 
 -- the member is linked into one of the rings
 abbrev pub IsLinked : Named → ℕ → Type 0
-IsLinked v m = (b : Bool) × ((l : ListName) × ((x : Element) × (Has x (seen_list v b l) × IsMemberOf v b x m)))
+IsLinked v m = (b : Bool)
+    × ((l : ListName) × ((x : Element) × (Has x (seen_list v b l) × IsMemberOf v b x m)))

@@ -10,8 +10,9 @@ use Rattle.graph_lists.specs.declared.token.ListHead.{ListHead}
 use Rattle.graph_lists.specs.declared.token.Place.{Place}
 use Rattle.graph_lists.specs.Table.{look, each}
 
--- the heads of the lists, the members of the elements, what stands in each list, what shows, what stands nowhere, and
--- which list and which element each head and member is of: in the ring of what shows where the flag is true
+-- the heads of the lists, the members of the elements, what stands in each list, what shows, what
+-- stands nowhere, and which list and which element each head and member is of: in the ring of what
+-- shows where the flag is true
 pub record Named : Type 0 where
   pub heads : List (ListName × Option ListHead)
   pub places : List (Element × Option Place)
@@ -45,7 +46,8 @@ element_triple (Edge e) = (1, (e, false))
 element_triple (End d) = (2, (d.edge, d.back))
 
 abbrev triple_element : ℕ × (ℕ × Bool) → Element
-triple_element p = cond (p.0 == 0) (Node p.1.0) (cond (p.0 == 1) (Edge p.1.0) (End (record { edge = p.1.0; back = p.1.1 })))
+triple_element p = cond (p.0 == 0) (Node p.1.0)
+    (cond (p.0 == 1) (Edge p.1.0) (End (record { edge = p.1.0; back = p.1.1 })))
 
 abbrev element_back : (x : Element) → triple_element (element_triple x) ≡ x
 element_back (Node v) = refl
@@ -53,13 +55,16 @@ element_back (Edge e) = refl
 element_back (End d) = refl
 
 abbrev element_code : Coded Element
-element_code = code_by (ℕ × (ℕ × Bool)) (coded× coded_ℕ (coded× coded_ℕ coded_bool)) element_triple triple_element element_back
+element_code = code_by (ℕ × (ℕ × Bool)) (coded× coded_ℕ (coded× coded_ℕ coded_bool))
+    element_triple triple_element element_back
 
 abbrev head_code : Coded ListHead
-head_code = code_by (ℕ × ℕ) (coded× coded_ℕ coded_ℕ) (λ h. (h.full, h.shown)) (λ p. record { full = p.0; shown = p.1 }) (λ _. refl)
+head_code = code_by (ℕ × ℕ) (coded× coded_ℕ coded_ℕ) (λ h. (h.full, h.shown))
+    (λ p. record { full = p.0; shown = p.1 }) (λ _. refl)
 
 abbrev place_code : Coded Place
-place_code = code_by (ℕ × ℕ) (coded× coded_ℕ coded_ℕ) (λ w. (w.full, w.shown)) (λ p. record { full = p.0; shown = p.1 }) (λ _. refl)
+place_code = code_by (ℕ × ℕ) (coded× coded_ℕ coded_ℕ) (λ w. (w.full, w.shown))
+    (λ p. record { full = p.0; shown = p.1 }) (λ _. refl)
 
 abbrev Tokens : Type 0
 Tokens = List (ListName × Option ListHead) × List (Element × Option Place)
@@ -72,11 +77,22 @@ Back = List (ℕ × Option (Bool × ListName)) × List (ℕ × Option (Bool × E
 
 abbrev pub named_code : Coded Named
 named_code = code_by (Tokens × (Content × Back))
-    (coded× (coded× (coded_list (coded× list_code (coded_option head_code))) (coded_list (coded× element_code (coded_option place_code))))
-    (coded× (coded× (coded_list (coded× list_code (coded_list element_code))) (coded× (coded_list (coded× element_code coded_bool)) (coded_list element_code)))
-    (coded× (coded_list (coded× coded_ℕ (coded_option (coded× coded_bool list_code)))) (coded_list (coded× coded_ℕ (coded_option (coded× coded_bool element_code)))))))
+    (coded× (coded× (coded_list (coded× list_code (coded_option head_code)))
+    (coded_list (coded× element_code (coded_option place_code))))
+    (coded× (coded× (coded_list (coded× list_code (coded_list element_code)))
+    (coded× (coded_list (coded× element_code coded_bool)) (coded_list element_code)))
+    (coded× (coded_list (coded× coded_ℕ (coded_option (coded× coded_bool list_code))))
+    (coded_list (coded× coded_ℕ (coded_option (coded× coded_bool element_code)))))))
     (λ v. ((v.heads, v.places), ((v.lists, (v.shown, v.loose)), (v.owner, v.who))))
-    (λ p. record { heads = p.0.0; places = p.0.1; lists = p.1.0.0; shown = p.1.0.1.0; loose = p.1.0.1.1; owner = p.1.1.0; who = p.1.1.1 }) (λ _. refl)
+    (λ p. record {
+      heads = p.0.0;
+      places = p.0.1;
+      lists = p.1.0.0;
+      shown = p.1.0.1.0;
+      loose = p.1.0.1.1;
+      owner = p.1.1.0;
+      who = p.1.1.1;
+    }) (λ _. refl)
 
 -- the lists, how many heads and members there are, and how many can be made without refusal
 pub record Lists : Type 0 where
@@ -87,9 +103,16 @@ pub record Lists : Type 0 where
   pub spare_members : ℕ
 
 abbrev pub lists_code : Coded Lists
-lists_code = code_by (Named × ((ℕ × ℕ) × (ℕ × ℕ))) (coded× named_code (coded× (coded× coded_ℕ coded_ℕ) (coded× coded_ℕ coded_ℕ)))
+lists_code = code_by (Named × ((ℕ × ℕ) × (ℕ × ℕ)))
+    (coded× named_code (coded× (coded× coded_ℕ coded_ℕ) (coded× coded_ℕ coded_ℕ)))
     (λ t. (t.named, ((t.heads, t.members), (t.spare_heads, t.spare_members))))
-    (λ p. record { named = p.0; heads = p.1.0.0; members = p.1.0.1; spare_heads = p.1.1.0; spare_members = p.1.1.1 }) (λ _. refl)
+    (λ p. record {
+      named = p.0;
+      heads = p.1.0.0;
+      members = p.1.0.1;
+      spare_heads = p.1.1.0;
+      spare_members = p.1.1.1;
+    }) (λ _. refl)
 
 -- the heads of a list and the members of an element, where they are there
 abbrev pub head_at : Named → ListName → Option ListHead
@@ -117,7 +140,15 @@ abbrev pub pick_member : Bool → Place → ℕ
 pick_member b w = cond b w.shown w.full
 
 abbrev pub nothing_named : Named
-nothing_named = record { heads = []; places = []; lists = []; shown = []; loose = []; owner = []; who = [] }
+nothing_named = record {
+  heads = [];
+  places = [];
+  lists = [];
+  shown = [];
+  loose = [];
+  owner = [];
+  who = [];
+}
 
 -- a list is there, with nothing in it, and is gone
 abbrev pub listed : ListName → ListHead → Named → Named
@@ -143,13 +174,22 @@ unplaced x v = record v { places = (x, None) ∷ v.places; loose = without same_
 
 -- x stands at the end of the list, right behind y, right before y, or nowhere
 abbrev pub pushed : ListName → Element → Named → Named
-pushed l x v = record v { lists = (l, list_at v l ++ x ∷ []) ∷ v.lists; loose = without same_element x v.loose }
+pushed l x v = record v {
+  lists = (l, list_at v l ++ x ∷ []) ∷ v.lists;
+  loose = without same_element x v.loose;
+}
 
 abbrev pub put_behind : Element → Element → Named → Named
-put_behind y x v = record v { lists = each (behind same_element y x) v.lists; loose = without same_element x v.loose }
+put_behind y x v = record v {
+  lists = each (behind same_element y x) v.lists;
+  loose = without same_element x v.loose;
+}
 
 abbrev pub put_before : Element → Element → Named → Named
-put_before y x v = record v { lists = each (before same_element y x) v.lists; loose = without same_element x v.loose }
+put_before y x v = record v {
+  lists = each (before same_element y x) v.lists;
+  loose = without same_element x v.loose;
+}
 
 abbrev pub unlinked : Element → Named → Named
 unlinked x v = record v { lists = each (without same_element x) v.lists; loose = x ∷ v.loose }

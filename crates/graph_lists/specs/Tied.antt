@@ -26,7 +26,9 @@ abbrev pub member : Named → Bool → Element → ℕ
 member v b x = member_in b (place_at v x)
 
 -- the ring of the head has the members of these elements, and the head is that of this list
-pub record HasMembers (places : List (Element × Option Place)) (owner : List (ℕ × Option (Bool × ListName))) (r : RingLists) (b : Bool) (l : ListName) (xs : List Element) (h : ℕ) : Type 0 where
+pub record HasMembers (places : List (Element × Option Place))
+    (owner : List (ℕ × Option (Bool × ListName)))
+    (r : RingLists) (b : Bool) (l : ListName) (xs : List Element) (h : ℕ) : Type 0 where
   pub is : map.get r.rings h ≡ Some (map (λ x. member_in b (look same_element None places x)) xs)
   pub name : look ◌==◌ None owner h ≡ Some (b, l)
 
@@ -35,9 +37,11 @@ IsRow v = HasMembers v.places v.owner
 
 -- each ring has the elements that E gives
 abbrev pub AreRows : Named → RingLists → (Bool → ListName → List Element) → Type 0
-AreRows v r E = (b : Bool) (l : ListName) (h : ListHead) → head_at v l ≡ Some h → IsRow v r b l (E b l) (pick_head b h)
+AreRows v r E = (b : Bool) (l : ListName) (h : ListHead) → head_at v l ≡ Some h
+    → IsRow v r b l (E b l) (pick_head b h)
 
-pub record HasTag (who : List (ℕ × Option (Bool × Element))) (r : RingLists) (b : Bool) (x : Element) (m : ℕ) : Type 0 where
+pub record HasTag (who : List (ℕ × Option (Bool × Element)))
+    (r : RingLists) (b : Bool) (x : Element) (m : ℕ) : Type 0 where
   pub tag : map.get r.tags m ≡ Some (number x)
   pub name : look ◌==◌ None who m ≡ Some (b, x)
 
@@ -45,11 +49,13 @@ abbrev pub IsMember : Named → RingLists → Bool → Element → ℕ → Type 
 IsMember v = HasTag v.who
 
 abbrev pub AreMembers : Named → RingLists → Type 0
-AreMembers v r = (b : Bool) (x : Element) (w : Place) → place_at v x ≡ Some w → IsMember v r b x (pick_member b w)
+AreMembers v r = (b : Bool) (x : Element) (w : Place) → place_at v x ≡ Some w
+    → IsMember v r b x (pick_member b w)
 
 -- the members of the elements of which P holds are loose
 abbrev pub AreLoose : Named → RingLists → (Bool → Element → Type 0) → Type 0
-AreLoose v r P = (b : Bool) (x : Element) (w : Place) → place_at v x ≡ Some w → P b x → IsLoose r (pick_member b w)
+AreLoose v r P = (b : Bool) (x : Element) (w : Place) → place_at v x ≡ Some w → P b x
+    → IsLoose r (pick_member b w)
 
 -- the element stands in no ring of all elements, or in none of those that show
 abbrev pub IsOut : Named → Bool → Element → Type 0

@@ -15,7 +15,8 @@ edges_without e es = filter (λ k. not (k == e)) es
 abbrev pub darts_without : ℕ → List Dart → List Dart
 darts_without e ds = filter (λ d. not (d.edge == e)) ds
 
--- the state with these darts in the out list of v, in the in list, and in the list of the darts that end at v
+-- the state with these darts in the out list of v, in the in list, and in the list of the darts
+-- that end at v
 abbrev pub with_out : ℕ → List Dart → GraphState → GraphState
 with_out v ds s = record s { outs = map.insert s.outs v ds }
 
@@ -28,7 +29,8 @@ with_back w ds s = record s {
   ins = cond s.directed (map.insert s.ins w ds) s.ins;
 }
 
--- the front dart of e goes to the rear of the out list of v, or the back dart to the rear of its list at w
+-- the front dart of e goes to the rear of the out list of v, or the back dart to the rear of its
+-- list at w
 abbrev pub front_to_rear : ℕ → ℕ → GraphState → GraphState
 front_to_rear v e s = with_out v (out_list s v ++ front e ∷ []) s
 
@@ -56,18 +58,24 @@ with_node label s = record s {
 
 -- a new edge from v to w with the label: its darts go to the rear of their lists
 unfoldable pub with_edge : ℕ → ℕ → List ℕ → GraphState → GraphState
-with_edge v w label s = back_to_rear w (s.made_edges + 1) (front_to_rear v (s.made_edges + 1) (enters v w label s))
+with_edge v w label s = back_to_rear w (s.made_edges + 1)
+    (front_to_rear v (s.made_edges + 1) (enters v w label s))
 
--- a new edge from the source of e to w, whose front dart stands right behind that of e, or right before it
+-- a new edge from the source of e to w, whose front dart stands right behind that of e, or right
+-- before it
 unfoldable pub with_edge_behind : ℕ → ℕ → List ℕ → GraphState → GraphState
 with_edge_behind e w label s =
     let v = source s e in
-    back_to_rear w (s.made_edges + 1) (with_out v (behind same_dart (front e) (front (s.made_edges + 1)) (out_list s v)) (enters v w label s))
+    back_to_rear w (s.made_edges + 1)
+    (with_out v (behind same_dart (front e) (front (s.made_edges + 1)) (out_list s v))
+    (enters v w label s))
 
 unfoldable pub with_edge_before : ℕ → ℕ → List ℕ → GraphState → GraphState
 with_edge_before e w label s =
     let v = source s e in
-    back_to_rear w (s.made_edges + 1) (with_out v (before same_dart (front e) (front (s.made_edges + 1)) (out_list s v)) (enters v w label s))
+    back_to_rear w (s.made_edges + 1)
+    (with_out v (before same_dart (front e) (front (s.made_edges + 1)) (out_list s v))
+    (enters v w label s))
 
 -- e and its reversal, where it has one, lose each other
 abbrev pub unpaired_at : ℕ → Option ℕ → map.FinMap nat_cmp ℕ → map.FinMap nat_cmp ℕ
@@ -136,7 +144,8 @@ at_each ks f = map.from_entries (list.map (λ k. (k, f k)) ks)
 abbrev pub flipped : Dart → Dart
 flipped d = record { edge = d.edge; back = not d.back }
 
--- every edge goes the other way: a dart stays in its place and changes its name, out lists and in lists change roles
+-- every edge goes the other way: a dart stays in its place and changes its name, out lists and in
+-- lists change roles
 unfoldable pub all_reversed : GraphState → GraphState
 all_reversed s = record s {
   ends = at_each s.edges (λ e. (target s e, source s e));

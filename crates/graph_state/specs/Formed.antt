@@ -20,7 +20,8 @@ pub record IsPair (s : GraphState) (e f : ℕ) : Type 0 where
   pub opposite : (source s e ≡ target s f) × (target s e ≡ source s f)
 
 pub record IsFormed (s : GraphState) : Type 0 where
-  -- each node, edge and dart stands once in the list where it belongs, and nothing else stands anywhere
+  -- each node, edge and dart stands once in the list where it belongs, and nothing else stands
+  -- anywhere
   pub homes : (l : ListName) (x : Element) → Has x (list_of s l) → IsLive s x × (home s x ≡ l)
   pub housed : (x : Element) → IsLive s x → Has x (list_of s (home s x))
   pub once : (l : ListName) → IsOnce (list_of s l)

@@ -41,7 +41,8 @@ IsLive s (Node v) = Has v s.nodes
 IsLive s (Edge e) = Has e s.edges
 IsLive s (End d) = Has d.edge s.edges
 
--- the list of the darts that end at a node: in an undirected graph these stand among those that begin there
+-- the list of the darts that end at a node: in an undirected graph these stand among those that
+-- begin there
 abbrev pub back_row : Bool → ℕ → ListName
 back_row directed w = cond directed (In w) (Out w)
 

@@ -42,7 +42,8 @@ IsFirstGone s (y ∷ ys) x why = ((x ≡ y) × IsGone s y why) ⊎ (IsThere s y 
 -- x is the leftmost item that doesn't show
 abbrev pub IsFirstHidden : GraphState → List ItemName → ItemName → Type 0
 IsFirstHidden s [] x = ⊥
-IsFirstHidden s (y ∷ ys) x = ((x ≡ y) × (shows s (element y) ≡ false)) ⊎ ((shows s (element y) ≡ true) × IsFirstHidden s ys x)
+IsFirstHidden s (y ∷ ys) x = ((x ≡ y) × (shows s (element y) ≡ false))
+    ⊎ ((shows s (element y) ≡ true) × IsFirstHidden s ys x)
 
 -- why a look at the items is refused: what is gone comes before what is hidden
 abbrev pub RefusesLook : GraphState → List ItemName → LookRefusal → Type 0
@@ -80,7 +81,8 @@ RefusesEdge s xs (edits.Gone x why) = RefusesLook s xs (looks.Gone x why)
 RefusesEdge s xs (edits.Hidden x) = RefusesLook s xs (looks.Hidden x)
 RefusesEdge s xs edits.FullNodes = ⊥
 RefusesEdge s xs edits.FullEdges = AreVisible s xs × (length s.edges ≡ 400000)
-RefusesEdge s xs edits.Spent = AreVisible s xs × (length s.edges < 400000) × (s.made_edges ≡ 16777215)
+RefusesEdge s xs edits.Spent = AreVisible s xs × (length s.edges < 400000)
+    × (s.made_edges ≡ 16777215)
 RefusesEdge s xs edits.NoMemory = AreVisible s xs × EdgeRoom s
 
 -- why a list of the items isn't given

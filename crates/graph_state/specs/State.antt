@@ -27,31 +27,44 @@ pub record GraphState : Type 0 where
   pub made_edges : ℕ
 
 abbrev pub dart_code : Coded Dart
-dart_code = code_by (ℕ × Bool) (coded× coded_ℕ coded_bool) (λ d. (d.edge, d.back)) (λ p. record { edge = p.0; back = p.1 }) (λ _. refl)
+dart_code = code_by (ℕ × Bool) (coded× coded_ℕ coded_bool) (λ d. (d.edge, d.back))
+    (λ p. record { edge = p.0; back = p.1 }) (λ _. refl)
 
 abbrev Lists : Type 0
-Lists = List ℕ × (List ℕ × (map.FinMap nat_cmp (ℕ × ℕ) × (map.FinMap nat_cmp (List Dart) × map.FinMap nat_cmp (List Dart))))
+Lists = List ℕ × (List ℕ × (map.FinMap nat_cmp (ℕ × ℕ)
+    × (map.FinMap nat_cmp (List Dart) × map.FinMap nat_cmp (List Dart))))
 
 abbrev Marks : Type 0
-Marks = map.FinMap nat_cmp ℕ × (map.FinMap nat_cmp (List ℕ) × (map.FinMap nat_cmp (List ℕ) × (set.FinSet nat_cmp × set.FinSet nat_cmp)))
+Marks = map.FinMap nat_cmp ℕ
+    × (map.FinMap nat_cmp (List ℕ)
+    × (map.FinMap nat_cmp (List ℕ) × (set.FinSet nat_cmp × set.FinSet nat_cmp)))
 
 abbrev Rest : Type 0
 Rest = Bool × (List ℕ × (List ℕ × (ℕ × ℕ)))
 
 abbrev lists_code : Coded Lists
 lists_code = coded× (coded_list coded_ℕ) (coded× (coded_list coded_ℕ)
-    (coded× (map.code coded_ℕ (coded× coded_ℕ coded_ℕ)) (coded× (map.code coded_ℕ (coded_list dart_code)) (map.code coded_ℕ (coded_list dart_code)))))
+    (coded× (map.code coded_ℕ (coded× coded_ℕ coded_ℕ))
+    (coded× (map.code coded_ℕ (coded_list dart_code))
+    (map.code coded_ℕ (coded_list dart_code)))))
 
 abbrev marks_code : Coded Marks
 marks_code = coded× (map.code coded_ℕ coded_ℕ) (coded× (map.code coded_ℕ (coded_list coded_ℕ))
     (coded× (map.code coded_ℕ (coded_list coded_ℕ)) (coded× (set.code coded_ℕ) (set.code coded_ℕ))))
 
 abbrev rest_code : Coded Rest
-rest_code = coded× coded_bool (coded× (coded_list coded_ℕ) (coded× (coded_list coded_ℕ) (coded× coded_ℕ coded_ℕ)))
+rest_code = coded× coded_bool
+    (coded× (coded_list coded_ℕ) (coded× (coded_list coded_ℕ) (coded× coded_ℕ coded_ℕ)))
 
 abbrev pub state_code : Coded GraphState
 state_code = code_by (Lists × (Marks × Rest)) (coded× lists_code (coded× marks_code rest_code))
-    (λ s. ((s.nodes, (s.edges, (s.ends, (s.outs, s.ins)))), ((s.reversals, (s.node_labels, (s.edge_labels, (s.hidden_nodes, s.hidden_edges)))), (s.directed, (s.node_type, (s.edge_type, (s.made_nodes, s.made_edges)))))))
+    (λ s. (
+      (s.nodes, (s.edges, (s.ends, (s.outs, s.ins)))),
+      (
+        (s.reversals, (s.node_labels, (s.edge_labels, (s.hidden_nodes, s.hidden_edges)))),
+        (s.directed, (s.node_type, (s.edge_type, (s.made_nodes, s.made_edges)))),
+      ),
+    ))
     (λ p. record {
       directed = p.1.1.0;
       nodes = p.0.0;
@@ -104,7 +117,8 @@ node_label s v = unwrap_or (map.get s.node_labels v) []
 abbrev pub edge_label : GraphState → ℕ → List ℕ
 edge_label s e = unwrap_or (map.get s.edge_labels e) []
 
--- a node shows where it isn't hidden, an edge where neither it nor an end of it is, and a dart where its edge shows
+-- a node shows where it isn't hidden, an edge where neither it nor an end of it is, and a dart
+-- where its edge shows
 abbrev pub shows_node : GraphState → ℕ → Bool
 shows_node s v = not (set.contains s.hidden_nodes v)
 

@@ -4,7 +4,8 @@ use Rattle.std.specs.FinSet as set
 use Rattle.graph_state.specs.State.{GraphState}
 use Rattle.graph_state.specs.Edits.{with_node, with_edge, with_edge_before, with_edge_behind, without_edge, without_node, has_end, reversed, moved, all_reversed, made_undirected, made_directed, with_node_label, with_edge_label, paired, edge_hidden, edge_restored, node_hidden, node_restored}
 
--- the edits, but for those that speak of every element: clearing, loading, restoring all, and making a map
+-- the edits, but for those that speak of every element: clearing, loading, restoring all, and
+-- making a map
 pub data Edit : Type 0 where
   NewNode : List ℕ → Edit
   NewEdge : ℕ → ℕ → List ℕ → Edit
@@ -77,5 +78,6 @@ AllSpare x s (d ∷ ds) = Spares x s d × AllSpare x (edited d s) ds
 
 -- to hide an edge, edit, and restore it is to edit
 abbrev pub RestoringGivesBack : Type 0
-RestoringGivesBack = (x : ℕ) (s : GraphState) (ds : List Edit) → set.contains s.hidden_edges x ≡ false → AllSpare x s ds
+RestoringGivesBack = (x : ℕ) (s : GraphState) (ds : List Edit)
+    → set.contains s.hidden_edges x ≡ false → AllSpare x s ds
     → edge_restored x (all_edited ds (edge_hidden x s)) ≡ all_edited ds s

@@ -11,8 +11,10 @@ use Rattle.hide_restore.specs.declared.hide.RestoreRefusal.TheVariants as restor
 
 abbrev pub RefusesHiding : GraphState → ℕ → HideRefusal → Type 0
 RefusesHiding s e (hide.Gone why) = IsGone s (names.Edge e) why
-RefusesHiding s e hide.AlreadyHidden = IsThere s (names.Edge e) × (set.contains s.hidden_edges e ≡ true)
+RefusesHiding s e hide.AlreadyHidden = IsThere s (names.Edge e)
+    × (set.contains s.hidden_edges e ≡ true)
 
 abbrev pub RefusesRestoring : GraphState → ℕ → RestoreRefusal → Type 0
 RefusesRestoring s e (restore.Gone why) = IsGone s (names.Edge e) why
-RefusesRestoring s e restore.NotHidden = IsThere s (names.Edge e) × (set.contains s.hidden_edges e ≡ false)
+RefusesRestoring s e restore.NotHidden = IsThere s (names.Edge e)
+    × (set.contains s.hidden_edges e ≡ false)
