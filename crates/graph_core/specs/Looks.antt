@@ -38,3 +38,4 @@ IsCyclicBefore s e r = (before behind : List Dart) → StandsBetween s e before 
 abbrev pub is_marked : GraphState → ItemName → Bool
 is_marked s (names.Node v) = set.contains s.hidden_nodes v
 is_marked s (names.Edge e) = set.contains s.hidden_edges e
+is_marked s (names.Cell c) = false

@@ -1,29 +1,34 @@
 -- When an edit or a look is refused, by the items that it names.
-use Rattle.std.specs.Prelude.{◌≡◌, ℕ, ◌<◌, ◌⊎◌, true, false, List, [], ◌∷◌, length}
+use Rattle.std.specs.Prelude.{◌≡◌, ℕ, ◌<◌, ◌⊎◌, Bool, true, false, List, [], ◌∷◌, length}
 use Rattle.item_pool.specs.Contents.{WhyGone}
 use Rattle.item_pool.specs.declared.pool.Gone.{Gone}
 use Rattle.leda_base.specs.declared.name.ItemName.{ItemName}
 use Rattle.leda_base.specs.declared.name.ItemName.TheVariants as names
-use Rattle.graph_state.specs.declared.name.Element.{Element}
 use Rattle.graph_state.specs.declared.name.Element.TheVariants.{Node, Edge}
 use Rattle.graph_state.specs.declared.refusal.EditRefusal.{EditRefusal}
 use Rattle.graph_state.specs.declared.refusal.EditRefusal.TheVariants as edits
 use Rattle.graph_state.specs.declared.refusal.LookRefusal.{LookRefusal}
 use Rattle.graph_state.specs.declared.refusal.LookRefusal.TheVariants as looks
-use Rattle.graph_state.specs.State.{GraphState}
-use Rattle.graph_state.specs.Names.{IsLive, shows}
+use Rattle.graph_state.specs.State.{GraphState, shows_node, shows_edge}
+use Rattle.graph_state.specs.Names.{IsLive}
 
-abbrev pub element : ItemName → Element
-element (names.Node v) = Node v
-element (names.Edge e) = Edge e
-
--- an item is listed, or dead or unknown by the numbers that were given
+-- an item is listed, or dead or unknown by the numbers that were given; a cell of a container is
+-- none of a graph's items
 abbrev pub IsThere : GraphState → ItemName → Type 0
-IsThere s x = IsLive s (element x)
+IsThere s (names.Node v) = IsLive s (Node v)
+IsThere s (names.Edge e) = IsLive s (Edge e)
+IsThere s (names.Cell c) = ⊥
 
 abbrev pub IsGone : GraphState → ItemName → Gone → Type 0
 IsGone s (names.Node v) why = (IsLive s (Node v) → ⊥) × WhyGone s.made_nodes v why
 IsGone s (names.Edge e) why = (IsLive s (Edge e) → ⊥) × WhyGone s.made_edges e why
+IsGone s (names.Cell c) why = ⊥
+
+-- whether it shows
+abbrev pub shows_item : GraphState → ItemName → Bool
+shows_item s (names.Node v) = shows_node s v
+shows_item s (names.Edge e) = shows_edge s e
+shows_item s (names.Cell c) = false
 
 -- every item is listed, and shows
 abbrev pub AreThere : GraphState → List ItemName → Type 0
@@ -32,7 +37,7 @@ AreThere s (x ∷ xs) = IsThere s x × AreThere s xs
 
 abbrev pub AreVisible : GraphState → List ItemName → Type 0
 AreVisible s [] = Unit {0}
-AreVisible s (x ∷ xs) = IsThere s x × (shows s (element x) ≡ true) × AreVisible s xs
+AreVisible s (x ∷ xs) = IsThere s x × (shows_item s x ≡ true) × AreVisible s xs
 
 -- x is the leftmost item that is gone
 abbrev pub IsFirstGone : GraphState → List ItemName → ItemName → Gone → Type 0
@@ -42,8 +47,8 @@ IsFirstGone s (y ∷ ys) x why = ((x ≡ y) × IsGone s y why) ⊎ (IsThere s y 
 -- x is the leftmost item that doesn't show
 abbrev pub IsFirstHidden : GraphState → List ItemName → ItemName → Type 0
 IsFirstHidden s [] x = ⊥
-IsFirstHidden s (y ∷ ys) x = ((x ≡ y) × (shows s (element y) ≡ false))
-    ⊎ ((shows s (element y) ≡ true) × IsFirstHidden s ys x)
+IsFirstHidden s (y ∷ ys) x = ((x ≡ y) × (shows_item s y ≡ false))
+    ⊎ ((shows_item s y ≡ true) × IsFirstHidden s ys x)
 
 -- why a look at the items is refused: what is gone comes before what is hidden
 abbrev pub RefusesLook : GraphState → List ItemName → LookRefusal → Type 0

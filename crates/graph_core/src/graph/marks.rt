@@ -240,6 +240,7 @@ impl Graph {
                 };
                 cell.is_hidden
             }
+            ItemName::Cell(_) => unreachable!(),
         }
     }
 
