@@ -1,5 +1,5 @@
 -- What looks at neighbours answer.
-use Rattle.std.specs.Prelude.{◌≡◌, ℕ, Bool, List, [], ◌∷◌, ◌++◌, Option, Some, option_map}
+use Rattle.std.specs.Prelude.{◌≡◌, ℕ, Bool, false, List, [], ◌∷◌, ◌++◌, Option, Some, option_map}
 use Rattle.std.specs.FinSet as set
 use Rattle.leda_base.specs.declared.name.ItemName.{ItemName}
 use Rattle.leda_base.specs.declared.name.ItemName.TheVariants as names
