@@ -1,0 +1,10 @@
+pub mod Kept
+pub mod Begins
+pub mod Names
+pub mod Nodes
+pub mod Edges
+pub mod Found
+pub mod Walks
+pub mod Hiding
+pub mod Nearest
+pub mod Showing

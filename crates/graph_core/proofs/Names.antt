@@ -1,0 +1,34 @@
+-- What the calls on lists make of their names, list by list and element by element.
+use Rattle.std.proofs.Common.{◌≡◌, true, false, cond, not, List, [], ◌∷◌, ◌++◌, Some, None, sym, ap, ◌∙◌, inl, inr}
+use Rattle.std.proofs.lemmas.List.{append-nil}
+use Rattle.graph_state.specs.declared.name.ListName.{ListName}
+use Rattle.graph_state.specs.declared.name.Element.{Element}
+use Rattle.graph_state.specs.Names.{same_element, same_list, without}
+use Rattle.graph_state.proofs.Same.{list_tells, element_tells, same_self}
+use Rattle.graph_state.proofs.Lists.{one}
+use Rattle.graph_lists.specs.declared.token.Place.{Place}
+use Rattle.graph_lists.specs.Named.{Named, place_at, list_at, shows_at, pushed, placed}
+use Rattle.graph_lists.proofs.Numbers.{look_new, look_else}
+
+pub pushed_list : (k : ListName) (x : Element) (n : Named) (l : ListName) → list_at (pushed k x n) l ≡ list_at n l ++ one (same_list k l) x
+pushed_list k x n l = elim (list_tells k l) [
+  | inl y ↦
+      ap (λ b. cond b (list_at n k ++ x ∷ []) (list_at n l)) y.0 ∙ ap (λ l. list_at n l ++ x ∷ []) y.1 ∙ sym (ap (λ b. list_at n l ++ one b x) y.0)
+  | inr ne ↦ ap (λ b. cond b (list_at n k ++ x ∷ []) (list_at n l)) ne.0 ∙ sym (append-nil (list_at n l)) ∙ sym (ap (λ b. list_at n l ++ one b x) ne.0)
+]
+
+-- of what stands nowhere, the first is taken
+pub taken : (x : Element) (xs : List Element) → without same_element x (x ∷ xs) ≡ without same_element x xs
+taken x xs = ap (λ b. cond (not b) (x ∷ without same_element x xs) (without same_element x xs)) (same_self same_element element_tells x)
+
+pub shows_placed : (x : Element) (w : Place) (n : Named) → shows_at (placed x w n) x ≡ true
+shows_placed x w n = look_new same_element element_tells false x true n.shown
+
+pub shows_else : (x : Element) (w : Place) (n : Named) (y : Element) → (y ≡ x → ⊥) → shows_at (placed x w n) y ≡ shows_at n y
+shows_else x w n y ne = look_else same_element element_tells false x y true n.shown ne
+
+pub place_new : (x : Element) (w : Place) (n : Named) → place_at (placed x w n) x ≡ Some w
+place_new x w n = look_new same_element element_tells None x (Some w) n.places
+
+pub place_else : (x : Element) (w : Place) (n : Named) (y : Element) → (y ≡ x → ⊥) → place_at (placed x w n) y ≡ place_at n y
+place_else x w n y ne = look_else same_element element_tells None x y (Some w) n.places ne

@@ -1,0 +1,5 @@
+pub mod Kept
+pub mod Looks
+pub mod Marks
+pub mod Members
+pub mod Steps

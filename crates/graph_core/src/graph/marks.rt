@@ -1,0 +1,288 @@
+//! Edges that are hidden and restored.
+ghost use Rattle.std.specs.Prelude.{◌≡◌, ℕ, Bool, true, false, not, ◌&&◌, Option, Some, None, MatchOption};
+ghost use Rattle.std.specs.FinMap as map;
+ghost use Rattle.std.specs.FinSet as set;
+ghost use Rattle.item_pool.specs.Contents.{HasLive};
+ghost use Rattle.leda_base.specs.declared.name.ItemName.TheVariants as names;
+ghost use Rattle.graph_state.specs.declared.name.ListName.{ListName};
+ghost use Rattle.graph_state.specs.declared.name.ListName.TheVariants.{Edges, Out};
+ghost use Rattle.graph_state.specs.declared.name.Element.{Element};
+ghost use Rattle.graph_state.specs.Names.{Has};
+ghost use Rattle.graph_state.specs.Edits.{edge_hidden, edge_restored};
+ghost use Rattle.graph_state.specs.Refusals.{IsThere};
+ghost use Rattle.graph_core.specs.Looks.{is_marked};
+ghost use Rattle.graph_lists.specs.Named.{head_at, place_at, list_at, shows_at, SameRoom, IsFirstShown, IsNextShown};
+ghost use Rattle.graph_lists.specs.Heads.{IsMemberOf};
+ghost use Rattle.graph_core.specs.declared.cell.NodeCell.{NodeCell};
+ghost use Rattle.graph_core.specs.declared.cell.EdgeCell.{EdgeCell};
+ghost use Rattle.graph_core.specs.Marks.{Marks, MarksParts, HasParts, IsToken, HasToken, HasTokens, CanShow, ShowsParts};
+
+use super::Graph;
+use super::growth::{back_head, back_name};
+use crate::cell::{EdgeCell, Heads, NodeCell};
+use crate::seen::show;
+use graph_lists::{ListHead, Lists, Member, Place};
+use graph_state::{Dart, EdgeItem, Element, ItemName, ListName};
+use item_pool::{Item, Pool};
+
+/// The element shows no more.
+fn hide_element(lists: &mut Lists, x: Element, place: &Place)
+    requires place { place_at lists.old.named x ≡ Some place.now }
+    requires there { (l : ListName) × Has x (list_at lists.old.named l) }
+    ensures named { Marks lists.old.named lists.new.named x false }
+    ensures room { SameRoom lists.old lists.new }
+{
+    if lists.is_shown(x, place) {
+        lists.hide(x, place);
+    }
+}
+
+/// The edge and its darts show no more.
+fn hide_parts(lists: &mut Lists, e: u32, cell: &EdgeCell)
+    requires { (l m n : ListName) × HasParts lists.old.named e cell.now l m n }
+    ensures named { MarksParts lists.old.named lists.new.named e false }
+    ensures room { SameRoom lists.old lists.new }
+{
+    hide_element(lists, Element::Edge(e), &cell.place);
+    hide_element(
+        lists,
+        Element::End(Dart {
+            edge: e,
+            back: false,
+        }),
+        &cell.front,
+    );
+    hide_element(
+        lists,
+        Element::End(Dart {
+            edge: e,
+            back: true,
+        }),
+        &cell.back,
+    );
+}
+
+/// Sets the mark of an edge, which says whether it is hidden by itself.
+fn set_mark(edges: &mut Pool<EdgeCell>, e: EdgeItem, hidden: bool)
+    requires { HasLive edges.old e.0.serial }
+    ensures live { (c : EdgeCell) → map.get edges.old.live e.0.serial ≡ Some c
+        → edges.new.live ≡ map.insert edges.old.live e.0.serial (record c { is_hidden = hidden }) }
+    ensures made { edges.new.made ≡ edges.old.made }
+{
+    if let Ok(cell) = edges.get_mut(e.0) {
+        cell.is_hidden = hidden;
+    }
+}
+
+/// The element of the list that the member is of, and its place.
+fn element_at<'a>(
+    lists: &Lists,
+    edges: &'a Pool<EdgeCell>,
+    list: ListName,
+    m: Member,
+) -> (Element, &'a Place)
+    requires { HasToken lists.now.named edges.now list m }
+    ensures { (x : Element) → Has x (list_at lists.now.named list)
+        → IsMemberOf lists.now.named false x m → IsToken lists.now.named edges.now list x
+        → (result.0 ≡ x) × (place_at lists.now.named x ≡ Some result.1.now) }
+{
+    let e = lists.number(m);
+    let Ok(cell) = edges.get(Item { slot: 0, serial: e }) else {
+        unreachable!()
+    };
+    if let ListName::Edges = list {
+        return (Element::Edge(e), &cell.place);
+    }
+    if cell.front.full == m {
+        return (
+            Element::End(Dart {
+                edge: e,
+                back: false,
+            }),
+            &cell.front,
+        );
+    }
+    (
+        Element::End(Dart {
+            edge: e,
+            back: true,
+        }),
+        &cell.back,
+    )
+}
+
+/// The nearest element before x in its list that shows, with its place, and none where no such
+/// element shows.
+fn nearest<'a>(
+    lists: &Lists,
+    edges: &'a Pool<EdgeCell>,
+    list: ListName,
+    head: &ListHead,
+    x: Element,
+    place: &Place,
+) -> Option<(Element, &'a Place)>
+    requires head { head_at lists.now.named list ≡ Some head.now }
+    requires place { place_at lists.now.named x ≡ Some place.now }
+    requires there { Has x (list_at lists.now.named list) }
+    requires tokens { HasTokens lists.now.named edges.now list }
+    ensures { MatchOption result (IsFirstShown lists.now.named list x)
+        (λ y. IsNextShown lists.now.named list y.0 x
+        × (place_at lists.now.named y.0 ≡ Some y.1.now)) }
+{
+    let mut at = lists.prev(place.full);
+    for _turn in 0..lists.len(head.full) {
+        let m = at?;
+        let (y, beside) = element_at(lists, edges, list, m);
+        if lists.is_shown(y, beside) {
+            return Some((y, beside));
+        }
+        at = lists.prev(m);
+    }
+    unreachable!()
+}
+
+/// The element, which stands in the list, shows from here on.
+fn show_element(
+    lists: &mut Lists,
+    edges: &Pool<EdgeCell>,
+    list: ListName,
+    head: &ListHead,
+    x: Element,
+    place: &Place,
+)
+    requires head { head_at lists.old.named list ≡ Some head.now }
+    requires place { place_at lists.old.named x ≡ Some place.now }
+    requires there { Has x (list_at lists.old.named list) }
+    requires tokens { HasTokens lists.old.named edges.now list }
+    requires hidden { shows_at lists.old.named x ≡ false }
+    ensures named { Marks lists.old.named lists.new.named x true }
+    ensures room { SameRoom lists.old lists.new }
+{
+    match nearest(lists, edges, list, head, x, place) {
+        Some((y, beside)) => lists.show_behind(list, y, beside, x, place),
+        None => lists.show_first(list, head, x, place),
+    }
+}
+
+/// The edge and its darts show from here on, where both ends of the edge do.
+fn show_parts(
+    lists: &mut Lists,
+    heads: &Heads,
+    nodes: &Pool<NodeCell>,
+    edges: &Pool<EdgeCell>,
+    directed: bool,
+    e: u32,
+    cell: &EdgeCell,
+)
+    requires { CanShow lists.old.named nodes.now edges.now heads.now.edges directed e cell.now }
+    ensures named { ShowsParts lists.old.named lists.new.named nodes.now e cell.now }
+    ensures room { SameRoom lists.old lists.new }
+{
+    let from = Item {
+        slot: 0,
+        serial: cell.from,
+    };
+    let to = Item {
+        slot: 0,
+        serial: cell.to,
+    };
+    let (Ok(from), Ok(to)) = (nodes.get(from), nodes.get(to)) else {
+        unreachable!()
+    };
+    if from.is_hidden || to.is_hidden {
+        return;
+    }
+    let front = Element::End(Dart {
+        edge: e,
+        back: false,
+    });
+    let back = Element::End(Dart {
+        edge: e,
+        back: true,
+    });
+    let row = back_name(directed, cell.to);
+    let ins = back_head(directed, to);
+    show_element(
+        lists,
+        edges,
+        ListName::Edges,
+        &heads.edges,
+        Element::Edge(e),
+        &cell.place,
+    );
+    show_element(
+        lists,
+        edges,
+        ListName::Out(cell.from),
+        &from.outs,
+        front,
+        &cell.front,
+    );
+    show_element(lists, edges, row, ins, back, &cell.back);
+}
+
+impl Graph {
+    /// Whether the node or the edge, which is there, is hidden by itself.
+    pub fn is_hidden(&self, x: ItemName) -> bool
+        requires { IsThere self.now x }
+        ensures { result ≡ is_marked self.now x }
+    {
+        match x {
+            ItemName::Node(v) => {
+                let Ok(cell) = self.nodes.get(Item { slot: 0, serial: v }) else {
+                    unreachable!()
+                };
+                cell.is_hidden
+            }
+            ItemName::Edge(e) => {
+                let Ok(cell) = self.edges.get(Item { slot: 0, serial: e }) else {
+                    unreachable!()
+                };
+                cell.is_hidden
+            }
+            ItemName::Cell(_) => unreachable!(),
+        }
+    }
+
+    /// Hides an edge, which isn't hidden by itself. It keeps its place in every list. It takes no
+    /// memory.
+    pub fn hide_edge(&mut self, e: EdgeItem)
+        requires live { IsThere self.old (names.Edge e.0.serial) }
+        requires unhidden { set.contains self.old.hidden_edges e.0.serial ≡ false }
+        ensures { self.new ≡ edge_hidden e.0.serial self.old }
+    {
+        let Ok(cell) = self.edges.get(e.0) else {
+            unreachable!()
+        };
+        hide_parts(&mut self.lists, e.0.serial, cell);
+        set_mark(&mut self.edges, e, true);
+        show(&mut self.seen, e.0.serial, 0, 0);
+    }
+
+    /// Restores an edge, which is hidden by itself, to the place that it has kept. It takes no
+    /// memory, and time linear in the hidden elements between it and the nearest one before it that
+    /// shows, list by list.
+    pub fn restore_edge(&mut self, e: EdgeItem)
+        requires live { IsThere self.old (names.Edge e.0.serial) }
+        requires hidden { set.contains self.old.hidden_edges e.0.serial ≡ true }
+        ensures { self.new ≡ edge_restored e.0.serial self.old }
+    {
+        let Ok(cell) = self.edges.get(e.0) else {
+            unreachable!()
+        };
+        let Some(heads) = &self.heads else {
+            unreachable!()
+        };
+        show_parts(
+            &mut self.lists,
+            heads,
+            &self.nodes,
+            &self.edges,
+            self.directed,
+            e.0.serial,
+            cell,
+        );
+        set_mark(&mut self.edges, e, false);
+        show(&mut self.seen, e.0.serial, 0, 0);
+    }
+}

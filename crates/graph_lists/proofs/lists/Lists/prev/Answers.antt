@@ -1,0 +1,23 @@
+-- Neighbours in the ring are neighbours in the list.
+use Rattle.std.proofs.Common.{◌≡◌, ◌∷◌, ◌++◌, map, sym, subst}
+use Rattle.graph_state.specs.Names.{behind, before, last_of}
+use Rattle.graph_lists.specs.Named.{Lists, seen_list}
+use Rattle.graph_lists.specs.Heads.{IsHeadOf, IsMemberOf, Finds}
+use Rattle.graph_lists.specs.Heads as heads
+use Rattle.graph_lists.specs.Tied.{member}
+use Rattle.graph_lists.proofs.Looks.{member_linked, stands, finds_prev}
+use Rattle.graph_lists.proofs.lists.Lists.prev.Goals as goal
+
+pub prev-requires : goal.prev-requires
+prev-requires c =
+    let a = c.self.inside in
+    member_linked a.seen.view a.rings c.self.invariant c.args.m (subst (λ (o : Lists). heads.IsLinked o.named c.args.m) (sym c.self.view_is) c.requires)
+
+pub returns : goal.returns
+returns c b l x before behind w is =
+    let a = c.self.inside in
+    let w' = (subst (λ (o : Lists). IsMemberOf o.named b x c.args.m) (sym c.self.view_is) w) in
+    let is' = (subst (λ (o : Lists). seen_list o.named b l ≡ before ++ x ∷ behind) (sym c.self.view_is) is) in
+    let s = stands a.seen.view a.rings c.self.invariant b l x before behind c.args.m is' w' in
+    subst (λ (o : Lists). Finds o.named b c.prev.result (last_of before)) c.self.view_is
+    (finds_prev a.seen.view a.rings c.self.invariant b l x before behind c.args.m c.prev.result is' w' (c.prev.ensures.prev s.0 (map (member a.seen.view b) before) (map (member a.seen.view b) behind) s.1))

@@ -1,0 +1,5 @@
+pub mod Heads
+pub mod Named
+pub mod Steps
+pub mod Table
+pub mod Tied

@@ -1,0 +1,71 @@
+//! Edges are hidden and restored.
+ghost use Rattle.std.specs.Prelude.{◌≡◌, true, false, IfErr, OnOk, OnErr};
+ghost use Rattle.std.specs.FinSet as set;
+ghost use Rattle.graph_state.specs.Edits.{edge_hidden, edge_restored};
+ghost use Rattle.hide_restore.specs.Refusals.{RefusesHiding, RefusesRestoring};
+
+use graph_core::{EdgeItem, Gone, Graph, ItemName};
+
+/// Why nothing was hidden. All is then as before.
+#[derive(Clone, Copy, Debug, PartialEq, Eq)]
+pub enum HideRefusal {
+    /// The item is dead, or was never made.
+    Gone(Gone),
+    /// It is hidden by itself already.
+    AlreadyHidden,
+}
+
+/// Why nothing was restored. All is then as before.
+#[derive(Clone, Copy, Debug, PartialEq, Eq)]
+pub enum RestoreRefusal {
+    /// The item is dead, or was never made.
+    Gone(Gone),
+    /// It isn't hidden by itself.
+    NotHidden,
+}
+
+/// Hides an edge. An edge of which an end is hidden can be hidden by itself too. It takes no
+/// memory.
+///
+/// # Errors
+///
+/// `Gone` where the edge is dead or unknown, and else `AlreadyHidden` exactly where it is hidden by
+/// itself.
+pub fn hide_edge(g: &mut Graph, e: EdgeItem) -> Result<(), HideRefusal>
+    ensures unhidden { OnOk result (set.contains g.old.hidden_edges e.0.serial ≡ false) }
+    ensures state { OnOk result (g.new ≡ edge_hidden e.0.serial g.old) }
+    ensures err { IfErr result (RefusesHiding g.old e.0.serial) }
+    ensures same { OnErr result (g.new ≡ g.old) }
+{
+    if let Err(why) = g.edge_item(e.0.serial) {
+        return Err(HideRefusal::Gone(why));
+    }
+    if g.is_hidden(ItemName::Edge(e.0.serial)) {
+        return Err(HideRefusal::AlreadyHidden);
+    }
+    g.hide_edge(e);
+    Ok(())
+}
+
+/// Restores an edge to the place that it has kept in each list. It shows again where both its ends
+/// do. It takes no memory.
+///
+/// # Errors
+///
+/// `Gone` where the edge is dead or unknown, and else `NotHidden` exactly where it isn't hidden by
+/// itself.
+pub fn restore_edge(g: &mut Graph, e: EdgeItem) -> Result<(), RestoreRefusal>
+    ensures hidden { OnOk result (set.contains g.old.hidden_edges e.0.serial ≡ true) }
+    ensures state { OnOk result (g.new ≡ edge_restored e.0.serial g.old) }
+    ensures err { IfErr result (RefusesRestoring g.old e.0.serial) }
+    ensures same { OnErr result (g.new ≡ g.old) }
+{
+    if let Err(why) = g.edge_item(e.0.serial) {
+        return Err(RestoreRefusal::Gone(why));
+    }
+    if !g.is_hidden(ItemName::Edge(e.0.serial)) {
+        return Err(RestoreRefusal::NotHidden);
+    }
+    g.restore_edge(e);
+    Ok(())
+}
