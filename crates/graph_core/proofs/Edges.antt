@@ -29,7 +29,7 @@ use Rattle.graph_core.proofs.Names.{pushed_list, taken, shows_else}
 use Rattle.graph_core.proofs.Nodes.{node_kept, fresh_edge}
 
 -- the three new elements are taken out of what stands nowhere
-all_taken : (n : ℕ) (xs : List Element) → xs ≡ [] → without same_element (End (back n)) (without same_element (End (front n)) (without same_element (Edge n) (End (back n) ∷ End (front n) ∷ Edge n ∷ xs))) ≡ []
+pub all_taken : (n : ℕ) (xs : List Element) → xs ≡ [] → without same_element (End (back n)) (without same_element (End (front n)) (without same_element (Edge n) (End (back n) ∷ End (front n) ∷ Edge n ∷ xs))) ≡ []
 all_taken n xs e =
     ap (λ xs. without same_element (End (back n)) (without same_element (End (front n)) (without same_element (Edge n) (End (back n) ∷ End (front n) ∷ Edge n ∷ xs)))) e
     ∙ ap (λ ys. without same_element (End (back n)) (without same_element (End (front n)) (End (back n) ∷ End (front n) ∷ ys))) (taken (Edge n) [])

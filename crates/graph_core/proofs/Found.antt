@@ -127,10 +127,14 @@ module _ (s : GraphState) (t : Lists) (top : Option Heads) (p : NodeCells) (pool
   pub seen_nodes : seen_list t.named true Nodes ≡ list.map Node (visible_nodes s)
   seen_nodes = seen Nodes ∙ filter_map_is Node (shows s) s.nodes
 
-  pub edge_live : (x : Element) → Has x (list.map Edge (visible_edges s)) → HasLive pool (number x)
-  edge_live x i =
-      let e = has_mapped Edge x (visible_edges s) i in
-      subst (λ x. HasLive pool (number x)) (sym e.1.1) (has_live e.0 (has_filter (shows_edge s) e.0 s.edges e.1.0).0)
+  -- what stands in a part of the edge list is there
+  pub edge_live : (x : Element) (es : List ℕ) → ((e : ℕ) → Has e es → Has e s.edges) → Has x (list.map Edge es) → HasLive pool (number x)
+  edge_live x es all i =
+      let e = has_mapped Edge x es i in
+      subst (λ x. HasLive pool (number x)) (sym e.1.1) (has_live e.0 (all e.0 e.1.0))
+
+  pub shown_edge_live : (x : Element) → Has x (list.map Edge (visible_edges s)) → HasLive pool (number x)
+  shown_edge_live x i = edge_live x (visible_edges s) (λ e j. (has_filter (shows_edge s) e s.edges j).0) i
 
   -- without the heads there is nothing
   pub no_edges : top ≡ None → s.edges ≡ []
@@ -182,10 +186,13 @@ module _ (s : GraphState) (t : Lists) (top : Option Heads) (p : NodeCells) (pool
     between = cut (front e) (visible_out s (source s e)) shown_front
 
 module _ (s : GraphState) (t : Lists) (top : Option Heads) (pool : Contents NodeCell) (q : EdgeCells) (k : IsKept s t top pool.live q) (made : pool.made ≡ s.made_nodes) where
-  pub node_live : (x : Element) → Has x (list.map Node (visible_nodes s)) → HasLive pool (number x)
-  node_live x i =
-      let v = has_mapped Node x (visible_nodes s) i in
-      let j = (has_filter (shows_node s) v.0 s.nodes v.1.0).0 in
+  pub node_live : (x : Element) (vs : List ℕ) → ((v : ℕ) → Has v vs → Has v s.nodes) → Has x (list.map Node vs) → HasLive pool (number x)
+  node_live x vs all i =
+      let v = has_mapped Node x vs i in
+      let j = all v.0 v.1.0 in
       let c = has_node s t top pool.live q k v.0 j in
       let g = k.formed.given_nodes v.0 j in
       subst (λ x. HasLive pool (number x)) (sym v.1.1) (c.0, (c.1, g.0, subst (λ n. v.0 ≤ n) (sym made) g.1))
+
+  pub shown_node_live : (x : Element) → Has x (list.map Node (visible_nodes s)) → HasLive pool (number x)
+  shown_node_live x i = node_live x (visible_nodes s) (λ v j. (has_filter (shows_node s) v s.nodes j).0) i

@@ -15,9 +15,10 @@ use Rattle.graph_state.proofs.Same.{nat_tells, same_is}
 use Rattle.graph_lists.specs.declared.token.Place.{Place}
 use Rattle.graph_lists.specs.Named.{Named, place_at, list_at, shows_at, IsFirstShown, IsNextShown}
 use Rattle.graph_lists.specs.Heads.{IsMemberOf, Finds}
+use Rattle.graph_core.specs.declared.cell.NodeCell.{NodeCell}
 use Rattle.graph_core.specs.declared.cell.EdgeCell.{EdgeCell}
 use Rattle.graph_core.specs.Kept.{end_place}
-use Rattle.graph_core.specs.Marks.{token, Fits, IsToken, Passes}
+use Rattle.graph_core.specs.Marks.{token, Fits, IsToken, IsNodeToken, IsTokenIn, Passes}
 use Rattle.graph_core.proofs.Found.{cut}
 
 -- only an edge fits the edge list, and only a dart any other one
@@ -35,6 +36,20 @@ fits_end (Out v) (End d) ne f = (d, refl)
 fits_end (In v) (Node w) ne f = absurd f
 fits_end (In v) (Edge e) ne f = absurd f
 fits_end (In v) (End d) ne f = (d, refl)
+
+-- the token of a node, and that of what stands in a list of edges or darts
+pub node_token : (n : Named) (p : Contents NodeCell) (q : Contents EdgeCell) (l : ListName) (x : Element) → l ≡ Nodes → IsTokenIn n p q l x → IsNodeToken n p x
+node_token n p q l x is t = subst (λ l. IsTokenIn n p q l x) is t
+
+pub other_token : (n : Named) (p : Contents NodeCell) (q : Contents EdgeCell) (l : ListName) (x : Element) → (l ≡ Nodes → ⊥) → IsTokenIn n p q l x → IsToken n q l x
+other_token n p q Nodes x ne t = absurd (ne refl)
+other_token n p q Edges x ne t = t
+other_token n p q (Out v) x ne t = t
+other_token n p q (In v) x ne t = t
+
+pub at_node : (n : Named) (p : Contents NodeCell) (v : ℕ) (c : NodeCell) (x : Element) → map.get p.live v ≡ Some c → v ≡ number x → IsNodeToken n p x → (Node v ≡ x) × (place_at n x ≡ Some c.place)
+at_node n p v c x at is t =
+    (ap Node is ∙ sym t.fits, t.place ∙ ap (λ (c : NodeCell). Some c.place) (some_same (sym t.live ∙ ap (map.get p.live) (sym is) ∙ at)))
 
 module _ (n : Named) (q : Contents EdgeCell) (l : ListName) (m e : ℕ) (cell : EdgeCell) (at : map.get q.live e ≡ Some cell) where
   same_cell : (x : Element) → e ≡ number x → (t : IsToken n q l x) → t.cell ≡ cell

@@ -15,15 +15,15 @@ pub record IsHere (v : Named) (b : Bool) (rest : List Element) (m : ℕ) : Type 
   pub is : rest ≡ x ∷ behind
   pub member : IsMemberOf v b x m
 
-here_at : (v : Named) (b : Bool) (rest : List Element) (m : ℕ) → Finds v b (Some m) (first_of rest) → IsHere v b rest m
+pub here_at : (v : Named) (b : Bool) (rest : List Element) (m : ℕ) → Finds v b (Some m) (first_of rest) → IsHere v b rest m
 here_at v b [] m f = absurd f
 here_at v b (x ∷ xs) m f = record { x = x; behind = xs; is = refl; member = f }
 
-none_left : (v : Named) (b : Bool) (rest : List Element) → Finds v b None (first_of rest) → rest ≡ []
+pub none_left : (v : Named) (b : Bool) (rest : List Element) → Finds v b None (first_of rest) → rest ≡ []
 none_left v b [] f = refl
 none_left v b (x ∷ xs) f = absurd f
 
-no_rest : (rest : List Element) → length rest ≡ 0 → rest ≡ []
+pub no_rest : (rest : List Element) → length rest ≡ 0 → rest ≡ []
 no_rest [] e = refl
 no_rest (x ∷ xs) e = absurd (omega (arith, e))
 

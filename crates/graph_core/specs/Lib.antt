@@ -1,5 +1,13 @@
+pub mod Beside
+pub mod Darts
 pub mod Kept
 pub mod Looks
 pub mod Marks
 pub mod Members
+pub mod Moves
+pub mod Pairs
+pub mod Removal
+pub mod Restores
 pub mod Steps
+pub mod Turns
+pub mod NodeMarks

@@ -1,4 +1,4 @@
--- Private: what the steps of hiding and restoring an edge leave of the lists.
+-- Private: what the steps of hiding and restoring leave of the lists.
 use Rattle.std.specs.Prelude.{◌≡◌, ℕ, Bool, true, false, not, ◌&&◌, cond, List, [], ◌∷◌, ◌++◌, filter, length, Option, Some}
 use Rattle.std.specs.FinMap as map
 use Rattle.item_pool.specs.Contents.{Contents}
@@ -29,19 +29,28 @@ pub record Marks (n m : Named) (x : Element) (b : Bool) : Type 0 where
   pub here : shows_at m x ≡ b
   pub else : (y : Element) → (y ≡ x → ⊥) → shows_at m y ≡ shows_at n y
 
--- only whether the edge and its darts show is changed
-pub record MarksParts (n m : Named) (e : ℕ) (b : Bool) : Type 0 where
-  pub same : IsSame n m
+-- the edge and its darts show, or don't, as the flag says
+pub record PartsShow (m : Named) (e : ℕ) (b : Bool) : Type 0 where
   pub edge : shows_at m (Edge e) ≡ b
   pub first : shows_at m (End (front e)) ≡ b
   pub second : shows_at m (End (back e)) ≡ b
-  pub else : (y : Element) → (y ≡ Edge e → ⊥) → (y ≡ End (front e) → ⊥) → (y ≡ End (back e) → ⊥)
-      → shows_at m y ≡ shows_at n y
+
+-- x is neither the edge nor a dart of it
+pub record IsNoPart (e : ℕ) (x : Element) : Type 0 where
+  pub edge : x ≡ Edge e → ⊥
+  pub first : x ≡ End (front e) → ⊥
+  pub second : x ≡ End (back e) → ⊥
+
+-- only whether they show is changed
+pub record MarksParts (n m : Named) (e : ℕ) (b : Bool) : Type 0 where
+  pub same : IsSame n m
+  pub here : PartsShow m e b
+  pub else : (x : Element) → IsNoPart e x → shows_at m x ≡ shows_at n x
 
 -- they are changed where the flag says so
-abbrev pub MarksIf : Bool → Named → Named → ℕ → Type 0
-MarksIf true n m e = MarksParts n m e true
-MarksIf false n m e = IsSame n m × ((y : Element) → shows_at m y ≡ shows_at n y)
+abbrev pub MarksIf : Bool → Named → Named → ℕ → Bool → Type 0
+MarksIf true n m e b = MarksParts n m e b
+MarksIf false n m e b = IsSame n m × ((y : Element) → shows_at m y ≡ shows_at n y)
 
 -- the cell has the places of the edge and its darts, which stand in lists
 pub record HasParts (n : Named) (e : ℕ) (c : EdgeCell) (edges from row : ListName) : Type 0 where
@@ -58,7 +67,7 @@ token c (Node v) = c.place
 token c (Edge e) = c.place
 token c (End d) = end_place d.back c
 
--- edges stand in the edge list, and darts in the others
+-- only edges stand in the edge list, and only darts in those of a node
 abbrev pub Fits : ListName → Element → Type 0
 Fits Nodes x = ⊥
 Fits Edges (Node v) = ⊥
@@ -78,14 +87,27 @@ pub record IsToken (n : Named) (q : Contents EdgeCell) (l : ListName) (x : Eleme
   pub first : place_at n (End (front (number x))) ≡ Some cell.front
   pub fits : Fits l x
 
+-- only nodes stand in the node list
+pub record IsNodeToken (n : Named) (p : Contents NodeCell) (x : Element) : Type 0 where
+  pub cell : NodeCell
+  pub live : map.get p.live (number x) ≡ Some cell
+  pub place : place_at n x ≡ Some cell.place
+  pub fits : x ≡ Node (number x)
+
+abbrev pub IsTokenIn : Named → Contents NodeCell → Contents EdgeCell → ListName → Element → Type 0
+IsTokenIn n p q Nodes x = IsNodeToken n p x
+IsTokenIn n p q Edges x = IsToken n q Edges x
+IsTokenIn n p q (Out v) x = IsToken n q (Out v) x
+IsTokenIn n p q (In v) x = IsToken n q (In v) x
+
 -- the cells have the places of all that stands in the list
-abbrev pub HasTokens : Named → Contents EdgeCell → ListName → Type 0
-HasTokens n q l = (x : Element) → Has x (list_at n l) → IsToken n q l x
+abbrev pub HasTokens : Named → Contents NodeCell → Contents EdgeCell → ListName → Type 0
+HasTokens n p q l = (x : Element) → Has x (list_at n l) → IsTokenIn n p q l x
 
 -- the member is that of an element of the list
-abbrev pub HasToken : Named → Contents EdgeCell → ListName → ℕ → Type 0
-HasToken n q l m = (x : Element)
-    × (Has x (list_at n l) × (IsMemberOf n false x m × IsToken n q l x))
+abbrev pub HasToken : Named → Contents NodeCell → Contents EdgeCell → ListName → ℕ → Type 0
+HasToken n p q l m = (x : Element)
+    × (Has x (list_at n l) × (IsMemberOf n false x m × IsTokenIn n p q l x))
 
 -- a walk to the front of a list: what was passed doesn't show, and the member is that of the
 -- element before
@@ -110,12 +132,9 @@ pub record CanShow (n : Named) (p : Contents NodeCell) (q : Contents EdgeCell) (
   pub outs : head_at n (Out c.from) ≡ Some from.outs
   pub ins : head_at n (back_row directed c.to) ≡ Some (cond directed to.ins to.outs)
   pub parts : HasParts n e c Edges (Out c.from) (back_row directed c.to)
-  pub tokens : (l : ListName) → (l ≡ Nodes → ⊥) → HasTokens n q l
-  pub edge_hidden : shows_at n (Edge e) ≡ false
-  pub first_hidden : shows_at n (End (front e)) ≡ false
-  pub second_hidden : shows_at n (End (back e)) ≡ false
+  pub tokens : (l : ListName) → HasTokens n p q l
 
 -- the edge and its darts show, where both ends do
 abbrev pub ShowsParts : Named → Named → Contents NodeCell → ℕ → EdgeCell → Type 0
 ShowsParts n m p e c = (v w : NodeCell) → map.get p.live c.from ≡ Some v
-    → map.get p.live c.to ≡ Some w → MarksIf (not v.is_hidden && not w.is_hidden) n m e
+    → map.get p.live c.to ≡ Some w → MarksIf (not v.is_hidden && not w.is_hidden) n m e true

@@ -6,31 +6,25 @@ use Rattle.graph_state.specs.declared.name.Element.{Element}
 use Rattle.graph_state.specs.Names.{Has, number, first_of}
 use Rattle.graph_lists.specs.Named.{Lists, Named, seen_list}
 use Rattle.graph_lists.specs.Heads.{IsHeadOf, IsMemberOf, Finds}
-use Rattle.graph_core.specs.declared.cell.NodeCell.{NodeCell}
 use Rattle.graph_core.specs.declared.cell.EdgeCell.{EdgeCell}
+
+-- the member is that of an element that has a value in the pool
+abbrev pub HasValue : {X : Type 0} → Lists → Contents X → ℕ → Type 0
+HasValue t q m = (b : Bool) × ((x : Element) × (IsMemberOf t.named b x m × HasLive q (number x)))
+
+-- so is each member of the ring
+abbrev pub HaveValues : {X : Type 0} → Lists → Contents X → ℕ → Type 0
+HaveValues t q g = (b : Bool)
+    × ((l : ListName) × (IsHeadOf t.named b l g
+    × ((x : Element) → Has x (seen_list t.named b l) → HasLive q (number x))))
 
 -- the member is that of an edge that is there, or of an end of one
 abbrev pub HasEdge : Lists → Contents EdgeCell → ℕ → Type 0
-HasEdge t q m = (b : Bool) × ((x : Element) × (IsMemberOf t.named b x m × HasLive q (number x)))
+HasEdge t q m = HasValue t q m
 
 abbrev pub MayHaveEdge : Lists → Contents EdgeCell → Option ℕ → Type 0
 MayHaveEdge t q None = Unit {0}
 MayHaveEdge t q (Some m) = HasEdge t q m
-
--- every element of the ring is that of an edge that is there, or of an end of one
-abbrev pub HasEdges : Lists → Contents EdgeCell → ℕ → Type 0
-HasEdges t q g = (b : Bool)
-    × ((l : ListName) × (IsHeadOf t.named b l g
-    × ((x : Element) → Has x (seen_list t.named b l) → HasLive q (number x))))
-
--- the same of nodes
-abbrev pub HasNode : Lists → Contents NodeCell → ℕ → Type 0
-HasNode t q m = (b : Bool) × ((x : Element) × (IsMemberOf t.named b x m × HasLive q (number x)))
-
-abbrev pub HasNodes : Lists → Contents NodeCell → ℕ → Type 0
-HasNodes t q g = (b : Bool)
-    × ((l : ListName) × (IsHeadOf t.named b l g
-    × ((x : Element) → Has x (seen_list t.named b l) → HasLive q (number x))))
 
 -- a walk along a ring: the elements taken, whose values are in the row, those that are left, and
 -- the member of the first of these

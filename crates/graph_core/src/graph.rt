@@ -6,11 +6,19 @@ ghost use Rattle.graph_state.specs.Formed.{IsFormed};
 ghost use Rattle.graph_state.specs.Refusals.{IsGone, IsThere};
 ghost use Rattle.graph_core.specs.Kept.{is_directed};
 
+mod beside;
 mod checks;
+mod counts;
+mod darts;
 mod growth;
+mod labels;
 mod looks;
 mod marks;
+mod moving;
+mod pairs;
+mod removal;
 mod walks;
+mod whole;
 
 use crate::cell::{EdgeCell, Heads, NodeCell};
 use crate::seen::{GraphView, begin};
@@ -82,7 +90,8 @@ impl Graph {
 
     /// How many nodes were made, which is also the last number.
     pub fn made_nodes(&self) -> u32
-        ensures { result ≡ self.now.made_nodes }
+        ensures made { result ≡ self.now.made_nodes }
+        ensures formed { IsFormed self.now }
     {
         self.nodes.made()
     }
@@ -100,7 +109,8 @@ impl Graph {
     ///
     /// `Dead` where the number was given and the node is gone, and `Unknown` where it wasn't given.
     pub fn node_item(&self, number: u32) -> Result<NodeItem, Gone>
-        ensures { MatchResult result
+        ensures formed { IsFormed self.now }
+        ensures item { MatchResult result
             (λ v. (v.0.serial ≡ number) × IsThere self.now (names.Node number))
             (IsGone self.now (names.Node number)) }
     {
@@ -116,7 +126,8 @@ impl Graph {
     ///
     /// As those of `node_item`.
     pub fn edge_item(&self, number: u32) -> Result<EdgeItem, Gone>
-        ensures { MatchResult result
+        ensures formed { IsFormed self.now }
+        ensures item { MatchResult result
             (λ e. (e.0.serial ≡ number) × IsThere self.now (names.Edge number))
             (IsGone self.now (names.Edge number)) }
     {

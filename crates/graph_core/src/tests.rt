@@ -1,5 +1,9 @@
 //! Graphs built and looked at.
 
+mod moving;
+mod removal;
+mod whole;
+
 use crate::{EdgeItem, Gone, Graph, Kind, NodeItem};
 use leda_base::Row;
 use std::alloc::Global;

@@ -6,3 +6,4 @@ pub mod Shown
 pub mod Makes
 pub mod Looks
 pub mod Room
+pub mod Turned

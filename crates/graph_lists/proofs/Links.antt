@@ -4,16 +4,19 @@ use Rattle.std.specs.FinMap as fin
 use Rattle.item_ring.specs.RingLists.{RingLists, IsIn, IsDistinct, IsLinkedIn, IsLinked, IsLoose, AreApart}
 use Rattle.item_ring.specs.RingLists as ring
 use Rattle.std.proofs.lemmas.List.{append-nil}
+use Rattle.graph_state.specs.declared.kind.Side.{Side}
+use Rattle.graph_state.specs.declared.kind.Side.TheVariants.{Before, Behind}
 use Rattle.graph_state.specs.declared.name.ListName.{ListName}
 use Rattle.graph_state.specs.declared.name.Element.{Element}
 use Rattle.graph_state.specs.Names.{Has, same_element, same_list, behind, before, without}
+use Rattle.graph_state.specs.Beside.{beside}
 use Rattle.graph_state.proofs.Has.{truth, not_both, none_some, has_last, map_join, has_filter, filter_has, filter_join, filter_one, filter_no, filter_same, filter_twice}
 use Rattle.graph_state.proofs.Same.{list_tells, element_tells, without_has, without_out, behind_out, before_out, behind_has, before_has, filter_behind, filter_before}
 use Rattle.graph_lists.specs.declared.token.ListHead.{ListHead}
 use Rattle.graph_lists.specs.declared.token.Place.{Place}
 use Rattle.graph_lists.specs.Named.{Named, head_at, place_at, list_at, shows_at, seen_list, pick_member, pushed, unlinked, marked}
 use Rattle.graph_lists.specs.Table.{each}
-use Rattle.graph_lists.specs.Steps.{Pushes, PushesIf, Unlinks, UnlinksIf}
+use Rattle.graph_lists.specs.Steps.{Pushes, PushesIf, member_beside, Unlinks, UnlinksIf}
 use Rattle.graph_lists.specs.Tied.{member, AreRows, IsRow, AreLoose, IsOut, IsPlaced, AreTied}
 use Rattle.graph_lists.proofs.Numbers.{Separates, map_without, map_behind, map_before, look_new, look_else, look_each}
 use Rattle.graph_lists.proofs.Rows.{member_is, ring_is, is_head, linked_in, rows_set, rows_as, members_same, some_head, linked_full, linked_shown, one_list, told, placed_in}
@@ -47,7 +50,7 @@ pub record IsBeside (G : Element → Element → List Element → List Element) 
   filters : (p : Element → Bool) (y x : Element) (zs : List Element) → p y ≡ true → p x ≡ true → filter p (G y x zs) ≡ G y x (filter p zs)
   maps : (f : Element → ℕ) (y x : Element) (zs : List Element) → Separates same_element f y zs → F (f y) (f x) (map f zs) ≡ map f (G y x zs)
 
-pub is_behind : IsBeside (behind same_element) ring.with_after
+is_behind : IsBeside (behind same_element) ring.with_after
 is_behind = record {
   none = λ y x. refl;
   out = behind_out same_element element_tells;
@@ -56,7 +59,7 @@ is_behind = record {
   maps = map_behind same_element;
 }
 
-pub is_before : IsBeside (before same_element) ring.with_before
+is_before : IsBeside (before same_element) ring.with_before
 is_before = record {
   none = λ y x. refl;
   out = before_out same_element element_tells;
@@ -64,6 +67,10 @@ is_before = record {
   filters = filter_before same_element element_tells;
   maps = map_before same_element;
 }
+
+pub is_beside : (side : Side) → IsBeside (beside same_element side) (member_beside side)
+is_beside Before = is_before
+is_beside Behind = is_behind
 
 -- what stands nowhere once the ring of all elements has changed, and the other one not yet
 abbrev OutFull : Named → Named → Bool → Element → Type 0

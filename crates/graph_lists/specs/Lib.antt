@@ -3,3 +3,4 @@ pub mod Named
 pub mod Steps
 pub mod Table
 pub mod Tied
+pub mod Turned

@@ -1,11 +1,13 @@
 -- The lists by their names, and what each call makes of them.
 use Rattle.std.specs.Prelude.{◌≡◌, ℕ, Bool, true, false, cond, ◌==◌, List, [], ◌∷◌, ◌++◌, filter, Option, Some, None, refl}
 use Rattle.std.specs.Coded.{Coded, code_by, coded×, coded_ℕ, coded_bool, coded_list, coded_option}
+use Rattle.graph_state.specs.declared.kind.Side.{Side}
 use Rattle.graph_state.specs.declared.name.ListName.{ListName}
 use Rattle.graph_state.specs.declared.name.ListName.TheVariants.{Nodes, Edges, Out, In}
 use Rattle.graph_state.specs.declared.name.Element.{Element}
 use Rattle.graph_state.specs.declared.name.Element.TheVariants.{Node, Edge, End}
-use Rattle.graph_state.specs.Names.{same_element, same_list, behind, before, without}
+use Rattle.graph_state.specs.Names.{same_element, same_list, without}
+use Rattle.graph_state.specs.Beside.{beside}
 use Rattle.graph_lists.specs.declared.token.ListHead.{ListHead}
 use Rattle.graph_lists.specs.declared.token.Place.{Place}
 use Rattle.graph_lists.specs.Table.{look, each}
@@ -172,22 +174,16 @@ placed x w v = record v {
 abbrev pub unplaced : Element → Named → Named
 unplaced x v = record v { places = (x, None) ∷ v.places; loose = without same_element x v.loose }
 
--- x stands at the end of the list, right behind y, right before y, or nowhere
+-- x stands at the end of the list, right beside y, or nowhere
 abbrev pub pushed : ListName → Element → Named → Named
 pushed l x v = record v {
   lists = (l, list_at v l ++ x ∷ []) ∷ v.lists;
   loose = without same_element x v.loose;
 }
 
-abbrev pub put_behind : Element → Element → Named → Named
-put_behind y x v = record v {
-  lists = each (behind same_element y x) v.lists;
-  loose = without same_element x v.loose;
-}
-
-abbrev pub put_before : Element → Element → Named → Named
-put_before y x v = record v {
-  lists = each (before same_element y x) v.lists;
+abbrev pub put_beside : Side → Element → Element → Named → Named
+put_beside side y x v = record v {
+  lists = each (beside same_element side y x) v.lists;
   loose = without same_element x v.loose;
 }
 

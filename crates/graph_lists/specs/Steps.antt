@@ -1,7 +1,9 @@
 -- Private: what a step leaves of the rings.
-use Rattle.std.specs.Prelude.{◌≡◌, ℕ, ◌+◌, ◌-◌, Bool, true, false, ◌⊎◌, [], ◌∷◌, ◌++◌}
+use Rattle.std.specs.Prelude.{◌≡◌, ℕ, ◌+◌, ◌-◌, Bool, true, false, ◌⊎◌, List, [], ◌∷◌, ◌++◌}
 use Rattle.std.specs.FinMap as map
-use Rattle.item_ring.specs.RingLists.{RingLists, IsLinked, IsLinkedIn, AreApart, ring, without}
+use Rattle.graph_state.specs.declared.kind.Side.{Side}
+use Rattle.graph_state.specs.declared.kind.Side.TheVariants.{Before, Behind}
+use Rattle.item_ring.specs.RingLists.{RingLists, IsLinked, IsLinkedIn, AreApart, ring, without, with_after, with_before}
 
 pub record AddsHead (r t : RingLists) (h : ℕ) : Type 0 where
   pub fresh : map.contains_key r.rings h ≡ false
@@ -47,3 +49,16 @@ pub record Unlinks (r t : RingLists) (m : ℕ) : Type 0 where
 -- it leaves it where it is in one
 abbrev pub UnlinksIf : RingLists → RingLists → ℕ → Type 0
 UnlinksIf r t m = (IsLinked r m × Unlinks r t m) ⊎ ((IsLinked r m → ⊥) × (t ≡ r))
+
+-- the member goes right before another one, or right behind it
+abbrev pub member_beside : Side → ℕ → ℕ → List ℕ → List ℕ
+member_beside Before = with_before
+member_beside Behind = with_after
+
+pub record PutsBeside (side : Side) (r t : RingLists) (at m : ℕ) : Type 0 where
+  pub rings : (h : ℕ) → IsLinkedIn r h at
+      → t.rings ≡ map.insert r.rings h (member_beside side at m (ring r h))
+  pub loose : t.loose ≡ without m r.loose
+  pub tags : t.tags ≡ r.tags
+  pub spare : (t.spare_heads ≡ r.spare_heads) × (t.spare_members ≡ r.spare_members)
+  pub apart : AreApart t

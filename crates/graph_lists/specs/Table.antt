@@ -11,3 +11,8 @@ module _ {K V : Type 0} where
   abbrev pub each : (V → V) → List (K × V) → List (K × V)
   each f [] = []
   each f (e ∷ es) = (e.0, f e.1) ∷ each f es
+
+  -- every name is changed
+  abbrev pub renamed : (K → K) → List (K × V) → List (K × V)
+  renamed f [] = []
+  renamed f (e ∷ es) = (f e.0, e.1) ∷ renamed f es

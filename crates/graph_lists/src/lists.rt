@@ -1,17 +1,19 @@
 //! Lists by names.
 ghost use Rattle.std.specs.Prelude.{◌≡◌, ℕ, Bool, true, false, ◌+◌, ◌-◌, ◌*◌, ◌<◌, ◌≤◌, ◌↔◌, List, [], ◌∷◌, ◌++◌, Option, Some, None, length, OnOk};
 ghost use Rattle.std.specs.FinMap as map;
+ghost use Rattle.item_ring.specs.RingLists as ring;
 ghost use Rattle.item_ring.specs.RingLists.{IsHead, IsLoose};
 ghost use Rattle.graph_state.specs.declared.name.ListName.{ListName};
 ghost use Rattle.graph_state.specs.declared.name.Element.{Element};
 ghost use Rattle.graph_state.specs.Names.{Has, number, first_of, last_of};
-ghost use Rattle.graph_lists.specs.Named.{head_at, place_at, list_at, shows_at, seen_list, nothing_named, listed, unlisted, placed, unplaced, pushed, put_behind, put_before, unlinked, marked, SameRoom, IsFirstShown, IsNextShown};
+ghost use Rattle.graph_lists.specs.Named.{head_at, place_at, list_at, shows_at, seen_list, nothing_named, listed, unlisted, placed, unplaced, pushed, put_beside, unlinked, marked, SameRoom, IsFirstShown, IsNextShown};
 ghost use Rattle.graph_lists.specs.Heads.{IsHeadOf, IsMemberOf, IsLinked, Finds};
-ghost use Rattle.graph_lists.specs.Steps.{AddsHead, AddsMember, PushesIf, UnlinksIf};
+ghost use Rattle.graph_lists.specs.Turned.{turned};
+ghost use Rattle.graph_lists.specs.Steps.{AddsHead, AddsMember, PushesIf, PutsBeside, UnlinksIf};
 
-use crate::seen::{NamedView, show, show_element, show_list, show_mark};
+use crate::seen::{NamedView, show, show_beside, show_element, show_list, show_mark, show_turn};
 use crate::token::{ListHead, Place};
-use graph_state::{Element, ListName};
+use graph_state::{Element, ListName, Side};
 use item_ring::{Head, Member, Rings};
 use leda_base::{NoMemory, Seen};
 use std::alloc::Global;
@@ -82,6 +84,18 @@ fn push_shown(rings: &mut Rings, head: Head, member: Member, shows: bool)
 {
     if shows {
         rings.push_back(head, member);
+    }
+}
+
+/// The member goes next to another one in its ring, on that side of it.
+fn insert_beside(rings: &mut Rings, side: Side, at: Member, member: Member)
+    requires at { ring.IsLinked rings.old at }
+    requires member { IsLoose rings.old member }
+    ensures { PutsBeside side rings.old rings.new at member }
+{
+    match side {
+        Side::Before => rings.insert_before(at, member),
+        Side::Behind => rings.insert_after(at, member),
     }
 }
 
@@ -184,34 +198,20 @@ impl Lists {
         show(&mut self.seen, list, x, x);
     }
 
-    /// The element, which shows and stands nowhere, goes right behind `y`, which shows too.
-    pub fn put_behind(&mut self, y: Element, beside: &Place, x: Element, place: &Place)
+    /// The element, which shows and stands nowhere, goes next to `y`, which shows too, on that side
+    /// of it.
+    pub fn put_beside(&mut self, side: Side, y: Element, beside: &Place, x: Element, place: &Place)
         requires beside { place_at self.old.named y ≡ Some beside.now }
         requires there { (l : ListName) × Has y (list_at self.old.named l) }
         requires place { place_at self.old.named x ≡ Some place.now }
         requires loose { Has x self.old.named.loose }
         requires shows { (shows_at self.old.named y ≡ true) × (shows_at self.old.named x ≡ true) }
-        ensures named { self.new.named ≡ put_behind y x self.old.named }
+        ensures named { self.new.named ≡ put_beside side y x self.old.named }
         ensures room { SameRoom self.old self.new }
     {
-        self.rings.insert_after(beside.full, place.full);
-        self.rings.insert_after(beside.shown, place.shown);
-        show(&mut self.seen, ListName::Nodes, x, y);
-    }
-
-    /// The element, which shows and stands nowhere, goes right before `y`, which shows too.
-    pub fn put_before(&mut self, y: Element, beside: &Place, x: Element, place: &Place)
-        requires beside { place_at self.old.named y ≡ Some beside.now }
-        requires there { (l : ListName) × Has y (list_at self.old.named l) }
-        requires place { place_at self.old.named x ≡ Some place.now }
-        requires loose { Has x self.old.named.loose }
-        requires shows { (shows_at self.old.named y ≡ true) × (shows_at self.old.named x ≡ true) }
-        ensures named { self.new.named ≡ put_before y x self.old.named }
-        ensures room { SameRoom self.old self.new }
-    {
-        self.rings.insert_before(beside.full, place.full);
-        self.rings.insert_before(beside.shown, place.shown);
-        show(&mut self.seen, ListName::Nodes, x, y);
+        insert_beside(&mut self.rings, side, beside.full, place.full);
+        insert_beside(&mut self.rings, side, beside.shown, place.shown);
+        show_beside(&mut self.seen, side, x, y);
     }
 
     /// The element leaves its list. It stands nowhere from here on.
@@ -295,6 +295,17 @@ impl Lists {
         self.rings.drop_head(head.full);
         self.rings.drop_head(head.shown);
         show_list(&mut self.seen, list, head);
+    }
+
+    /// Lists and elements get the names that they have where every edge goes the other way: the two
+    /// darts of an edge change their names, and where `directed` is true so do the out list and the
+    /// in list of a node. Nothing leaves its place, and each head and each member stays that of
+    /// what it was of. It takes constant time.
+    pub fn turn(&mut self, directed: bool)
+        ensures named { self.new.named ≡ turned directed self.old.named }
+        ensures room { SameRoom self.old self.new }
+    {
+        show_turn(&mut self.seen, directed);
     }
 
     /// Whether the element, which stands in a list, shows.

@@ -3,7 +3,7 @@ ghost use Rattle.std.specs.Prelude.{◌≡◌};
 ghost use Rattle.graph_lists.specs.Named.{Named};
 
 use crate::token::{ListHead, Place};
-use graph_state::{Element, ListName};
+use graph_state::{Element, ListName, Side};
 use leda_base::Seen;
 use std::marker::Model;
 
@@ -47,6 +47,22 @@ pub(crate) fn show_element(seen: &mut Seen<NamedView>, x: Element, place: &Place
 
 /// Likewise, where an element shows from here on, or doesn't.
 pub(crate) fn show_mark(seen: &mut Seen<NamedView>, x: Element, shows: bool)
+    ghost to: { Named }
+    ensures { seen.new.view ≡ to }
+{
+    seen.becomes();
+}
+
+/// Likewise, where an element comes next to another one.
+pub(crate) fn show_beside(seen: &mut Seen<NamedView>, side: Side, x: Element, beside: Element)
+    ghost to: { Named }
+    ensures { seen.new.view ≡ to }
+{
+    seen.becomes();
+}
+
+/// Likewise, where names change. The flag is one that `to` may be made of.
+pub(crate) fn show_turn(seen: &mut Seen<NamedView>, directed: bool)
     ghost to: { Named }
     ensures { seen.new.view ≡ to }
 {

@@ -202,18 +202,24 @@ module _ (s : GraphState) (f : IsFormed s) where
         | false ↦ h.0
       ])
 
-  -- a new node has no darts
-  pub no_outs : out_list s (s.made_nodes + 1) ≡ []
-  no_outs = none_has (out_list s (s.made_nodes + 1)) (λ d i.
-      let h = f.homes (Out (s.made_nodes + 1)) (End d) (has_map End d (out_list s (s.made_nodes + 1)) i) in
+  -- a node that isn't listed has no darts, and so has a new one
+  pub bare_out : (v : ℕ) → (Has v s.nodes → ⊥) → out_list s v ≡ []
+  bare_out v out = none_has (out_list s v) (λ d i.
+      let h = f.homes (Out v) (End d) (has_map End d (out_list s v) i) in
       let e = f.ends d.edge h.0 in
-      node_fresh (homed d (Out (s.made_nodes + 1)) h.1 e))
+      out (homed d (Out v) h.1 e))
+
+  pub bare_in : (v : ℕ) → (Has v s.nodes → ⊥) → in_list s v ≡ []
+  bare_in v out = none_has (in_list s v) (λ d i.
+      let h = f.homes (In v) (End d) (has_map End d (in_list s v) i) in
+      let e = f.ends d.edge h.0 in
+      out (homed d (In v) h.1 e))
+
+  pub no_outs : out_list s (s.made_nodes + 1) ≡ []
+  no_outs = bare_out (s.made_nodes + 1) node_fresh
 
   pub no_ins : in_list s (s.made_nodes + 1) ≡ []
-  no_ins = none_has (in_list s (s.made_nodes + 1)) (λ d i.
-      let h = f.homes (In (s.made_nodes + 1)) (End d) (has_map End d (in_list s (s.made_nodes + 1)) i) in
-      let e = f.ends d.edge h.0 in
-      node_fresh (homed d (In (s.made_nodes + 1)) h.1 e))
+  no_ins = bare_in (s.made_nodes + 1) node_fresh
 
 -- a new edge whose darts go to the rear
 module _ (s : GraphState) (f : IsFormed s) (v w : ℕ) (label : List ℕ) where

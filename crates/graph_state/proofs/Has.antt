@@ -71,6 +71,10 @@ module _ {X Y : Type 0} (f : X → Y) where
   once_map [] one o = tt
   once_map (x ∷ xs) one o = ((λ i. let r = has_mapped (f x) xs i in o.0 (subst (λ z. Has z xs) (sym (one x r.0 r.1.1)) r.1.0)), once_map xs one o.1)
 
+  pub once_mapped : (xs : List X) → IsOnce (map f xs) → IsOnce xs
+  once_mapped [] o = tt
+  once_mapped (x ∷ xs) o = ((λ i. o.0 (has_map x xs i)), once_mapped xs o.1)
+
 module _ {X : Type 0} (p : X → Bool) where
   pub has_filter : (x : X) (xs : List X) → Has x (filter p xs) → Has x xs × (p x ≡ true)
   has_filter x [] i = absurd i
@@ -136,3 +140,7 @@ filter_map_is f p (x ∷ xs) = elim (p (f x)) as (λ b. cond b (f x ∷ filter p
   | true ↦ ap (λ zs. f x ∷ zs) (filter_map_is f p xs)
   | false ↦ filter_map_is f p xs
 ]
+
+pub map_on : {X Y Z : Type 0} (f : X → Y) (g : Y → Z) (xs : List X) → map g (map f xs) ≡ map (λ x. g (f x)) xs
+map_on f g [] = refl
+map_on f g (x ∷ xs) = ap (λ ys. g (f x) ∷ ys) (map_on f g xs)

@@ -4,3 +4,13 @@ pub mod Maps
 pub mod Lists
 pub mod Added
 pub mod Marked
+pub mod Columns
+pub mod Beside
+pub mod Removed
+pub mod Each
+pub mod Relisted
+pub mod Turned
+pub mod Moved
+pub mod Order
+pub mod NodeRemoved
+pub mod Cleared

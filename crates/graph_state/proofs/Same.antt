@@ -1,5 +1,5 @@
 -- Tests of equality tell whether names are the same.
-use Rattle.std.proofs.Common.{◌≡◌, ℕ, Bool, true, false, cond, ◌==◌, not, ◌&&◌, List, [], ◌∷◌, filter, refl, sym, ap, subst, ◌∙◌, ◌⊎◌, inl, inr}
+use Rattle.std.proofs.Common.{◌≡◌, ℕ, ◌+◌, Bool, true, false, cond, ◌==◌, not, ◌&&◌, List, [], ◌∷◌, filter, length, refl, sym, ap, subst, ◌∙◌, ◌⊎◌, inl, inr, arith}
 use Rattle.std.proofs.lemmas.Bool.Decides.{eqb_tells}
 use Rattle.graph_defs.specs.declared.dart.Dart.{Dart}
 use Rattle.graph_state.specs.declared.name.ListName.{ListName}
@@ -99,6 +99,20 @@ module _ {X : Type 0} (same : X → X → Bool) (tells : (a b : X) → Tells sam
 
   pub without_out : (x : X) (zs : List X) → (Has x zs → ⊥) → without same x zs ≡ zs
   without_out x zs out = filter_all (λ z. not (same z x)) zs (λ z i. ap not (same_not z x (λ e. out (subst (λ y. Has y zs) e i))))
+
+  -- of what stands once, one is taken
+  pub without_long : (x : X) (zs : List X) → IsOnce zs → Has x zs → length (without same x zs) + 1 ≡ length zs
+  without_long x [] o i = absurd i
+  without_long x (z ∷ zs) o i = elim (tells z x) [
+    | inl y ↦
+        let n : length (without same x (z ∷ zs)) ≡ length zs =
+        ap (λ b. length (cond (not b) (z ∷ without same x zs) (without same x zs))) y.0 ∙ ap length (without_out x zs (λ j. o.0 (subst (λ k. Has k zs) (sym y.1) j))) in
+        omega (arith, n)
+    | inr n ↦
+        let m : length (without same x (z ∷ zs)) ≡ length (z ∷ without same x zs) = ap (λ b. length (cond (not b) (z ∷ without same x zs) (without same x zs))) n.0 in
+        let r = without_long x zs o.1 (elim i [ inl e ↦ absurd (n.1 (sym e)) | inr j ↦ j ]) in
+        omega (arith, m, r)
+  ]
 
   pub behind_out : (x y : X) (zs : List X) → (Has x zs → ⊥) → behind same x y zs ≡ zs
   behind_out x y [] out = refl

@@ -1,6 +1,10 @@
+pub mod Beside
 pub mod Edits
 pub mod Formed
 pub mod Names
+pub mod Parts
 pub mod Refusals
 pub mod Refused
+pub mod Reversals
 pub mod State
+pub mod Turned

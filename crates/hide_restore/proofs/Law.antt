@@ -19,7 +19,7 @@ or_swap true false c = refl
 or_swap false b c = refl
 
 -- one number in and another one out, in either order
-in_in : (s : FinSet nat_cmp) (e x : ℕ) → set.insert (set.insert s x) e ≡ set.insert (set.insert s e) x
+pub in_in : (s : FinSet nat_cmp) (e x : ℕ) → set.insert (set.insert s x) e ≡ set.insert (set.insert s e) x
 in_in s e x = same_set nat_cmp_total nat_cmp-IsAntisymmetric _ _ (λ q.
     in_put (set.insert s x) e q ∙ ap (λ b. (q == e) || b) (in_put s x q) ∙ or_swap (q == e) (q == x) (set.contains s q)
     ∙ sym (in_put (set.insert s e) x q ∙ ap (λ b. (q == x) || b) (in_put s e q)))
@@ -28,7 +28,7 @@ out_over : (a b c : Bool) → (a ≡ true → b ≡ false) → (not a && (b || c
 out_over true b c f = ap (λ b. b || false) (sym (f refl))
 out_over false b c f = refl
 
-out_in : (s : FinSet nat_cmp) (e x : ℕ) → (e ≡ x → ⊥) → set.remove (set.insert s x) e ≡ set.insert (set.remove s e) x
+pub out_in : (s : FinSet nat_cmp) (e x : ℕ) → (e ≡ x → ⊥) → set.remove (set.insert s x) e ≡ set.insert (set.remove s e) x
 out_in s e x ne = same_set nat_cmp_total nat_cmp-IsAntisymmetric _ _ (λ q.
     in_out (set.insert s x) e q ∙ ap (λ b. not (q == e) && b) (in_put s x q)
     ∙ out_over (q == e) (q == x) (set.contains s q) (λ t. elim (nat_tells q x) [
@@ -41,7 +41,7 @@ back_and_forth : (a c : Bool) → (a ≡ true → c ≡ false) → (not a && (a 
 back_and_forth true c f = sym (f refl)
 back_and_forth false c f = refl
 
-back_again : (s : FinSet nat_cmp) (x : ℕ) → set.contains s x ≡ false → set.remove (set.insert s x) x ≡ s
+pub back_again : (s : FinSet nat_cmp) (x : ℕ) → set.contains s x ≡ false → set.remove (set.insert s x) x ≡ s
 back_again s x none = same_set nat_cmp_total nat_cmp-IsAntisymmetric _ _ (λ q.
     in_out (set.insert s x) x q ∙ ap (λ b. not (q == x) && b) (in_put s x q)
     ∙ back_and_forth (q == x) (set.contains s q) (λ t. elim (nat_tells q x) [ inl y ↦ ap (set.contains s) y.1 ∙ none | inr n ↦ absurd (not_both t n.0) ]))
@@ -87,10 +87,10 @@ commutes x s (HideNode v) ok = refl
 commutes x s (RestoreNode v) ok = refl
 
 -- an edit that spares the edge doesn't hide it
-out_still : (h : FinSet nat_cmp) (e x : ℕ) → set.contains h x ≡ false → set.contains (set.remove h e) x ≡ false
+pub out_still : (h : FinSet nat_cmp) (e x : ℕ) → set.contains h x ≡ false → set.contains (set.remove h e) x ≡ false
 out_still h e x none = in_out h e x ∙ ap (λ b. not (x == e) && b) none ∙ elim (not (x == e)) as (λ b. (b && false) ≡ false) [ true ↦ refl | false ↦ refl ]
 
-in_still : (h : FinSet nat_cmp) (e x : ℕ) → (e ≡ x → ⊥) → set.contains h x ≡ false → set.contains (set.insert h e) x ≡ false
+pub in_still : (h : FinSet nat_cmp) (e x : ℕ) → (e ≡ x → ⊥) → set.contains h x ≡ false → set.contains (set.insert h e) x ≡ false
 in_still h e x ne none = in_put h e x ∙ ap (λ b. (x == e) || b) none ∙ elim (nat_tells x e) [ inl y ↦ absurd (ne (sym y.1)) | inr n ↦ ap (λ b. b || false) n.0 ]
 
 gone_still : (x e : ℕ) (s : GraphState) → set.contains s.hidden_edges x ≡ false → set.contains (without_edge e s).hidden_edges x ≡ false

@@ -1,1 +1,4 @@
 pub mod Law
+pub mod NodeLaw
+pub mod Numbers
+pub mod Visible

@@ -1,4 +1,4 @@
--- The edits of a graph as values, and what it is to restore an edge behind a row of them.
+-- The edits of a graph as values, and what it is to restore an edge or a node behind a row of them.
 use Rattle.std.specs.Prelude.{◌≡◌, ℕ, false, List, [], ◌∷◌}
 use Rattle.std.specs.FinSet as set
 use Rattle.graph_state.specs.State.{GraphState}
@@ -81,3 +81,34 @@ abbrev pub RestoringGivesBack : Type 0
 RestoringGivesBack = (x : ℕ) (s : GraphState) (ds : List Edit)
     → set.contains s.hidden_edges x ≡ false → AllSpare x s ds
     → edge_restored x (all_edited ds (edge_hidden x s)) ≡ all_edited ds s
+
+-- the edit neither names the node x nor deletes it
+abbrev pub SparesNode : ℕ → Edit → Type 0
+SparesNode x (NewNode label) = Unit {0}
+SparesNode x (NewEdge v w label) = (v ≡ x → ⊥) × (w ≡ x → ⊥)
+SparesNode x (EdgeBefore e w label) = w ≡ x → ⊥
+SparesNode x (EdgeBehind e w label) = w ≡ x → ⊥
+SparesNode x (DeleteEdge e) = Unit {0}
+SparesNode x (DeleteNode v) = v ≡ x → ⊥
+SparesNode x (ReverseEdge e) = Unit {0}
+SparesNode x (MoveEdge e v w) = (v ≡ x → ⊥) × (w ≡ x → ⊥)
+SparesNode x ReverseAll = Unit {0}
+SparesNode x MakeUndirected = Unit {0}
+SparesNode x MakeDirected = Unit {0}
+SparesNode x (LabelNode v label) = v ≡ x → ⊥
+SparesNode x (LabelEdge e label) = Unit {0}
+SparesNode x (SetReversal e f) = Unit {0}
+SparesNode x (HideEdge e) = Unit {0}
+SparesNode x (RestoreEdge e) = Unit {0}
+SparesNode x (HideNode v) = v ≡ x → ⊥
+SparesNode x (RestoreNode v) = v ≡ x → ⊥
+
+abbrev pub AllSpareNode : ℕ → List Edit → Type 0
+AllSpareNode x [] = Unit {0}
+AllSpareNode x (d ∷ ds) = SparesNode x d × AllSpareNode x ds
+
+-- to hide a node, edit, and restore it is to edit
+abbrev pub RestoringNodesGivesBack : Type 0
+RestoringNodesGivesBack = (x : ℕ) (s : GraphState) (ds : List Edit)
+    → set.contains s.hidden_nodes x ≡ false → AllSpareNode x ds
+    → node_restored x (all_edited ds (node_hidden x s)) ≡ all_edited ds s

@@ -1,15 +1,22 @@
-//! Hiding and restoring, with their refusals, and what restoring undoes.
+//! Hiding and restoring, with their refusals, what restoring undoes, and the visible graph as a
+//! net.
 //!
-//! Only edges can be hidden yet. `specs/Edits.antt` has the edits of a graph as values, so that the
-//! law can speak of any row of them: an edge that is hidden, left alone by the edits that follow,
-//! and then restored, stands where those edits alone would have it.
+//! `specs/Edits.antt` has the edits of a graph as values, so that the law can speak of any row of
+//! them: a node or an edge that is hidden, left alone by the edits that follow, and then restored,
+//! stands where those edits alone would have it.
 #![tactic(auto)]
 
 mod hide;
 mod laws;
+mod places;
+mod shown;
 
-pub use hide::{HideRefusal, RestoreRefusal, hide_edge, restore_edge};
-pub use laws::restoring_gives_back;
+pub use hide::{
+    HideRefusal, RestoreRefusal, hide_edge, hide_node, restore_all, restore_edge, restore_node,
+};
+pub use laws::{restoring_gives_back, restoring_nodes_gives_back};
+pub use places::Places;
+pub use shown::{Shown, net};
 
 #[cfg(test)]
 mod tests;

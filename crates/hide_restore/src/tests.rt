@@ -1,5 +1,8 @@
 //! An edge hidden and restored.
 
+mod nodes;
+mod shown;
+
 use crate::{HideRefusal, RestoreRefusal, hide_edge, restore_edge};
 use graph_core::{EdgeItem, Graph, Kind, NodeItem};
 use leda_base::Row;

@@ -19,7 +19,7 @@ use item_pool::{Item, Pool};
 use leda_base::{NoMemory, Row};
 
 /// Makes room for one value more, and for so many lists and elements.
-fn make_room<T>(
+pub(super) fn make_room<T>(
     lists: &mut Lists,
     pool: &mut Pool<T>,
     more: u32,
@@ -98,10 +98,10 @@ pub(super) fn back_head(directed: bool, cell: &NodeCell) -> &ListHead
 
 /// Where an edge goes: its two nodes, and the list of the darts that end at the second.
 #[derive(Clone, Copy)]
-struct Ends {
-    from: u32,
-    to: u32,
-    row: ListName,
+pub(super) struct Ends {
+    pub from: u32,
+    pub to: u32,
+    pub row: ListName,
 }
 
 /// Takes an edge in under the next number, with its darts at the rear of their lists.

@@ -11,6 +11,7 @@ ghost use Rattle.graph_core.specs.Looks.{IsEdgeOf, IsBehind, IsBefore, IsCyclicB
 ghost use Rattle.graph_core.specs.Members.{HasEdge, MayHaveEdge};
 
 use super::Graph;
+use super::walks::item_at;
 use crate::cell::EdgeCell;
 use graph_lists::{Lists, Member};
 use graph_state::{EdgeItem, LookRefusal, NodeItem};
@@ -22,10 +23,7 @@ pub(super) fn edge_at(lists: &Lists, edges: &Pool<EdgeCell>, m: Member) -> EdgeI
     ensures { (b : Bool) (x : Element)
         → IsMemberOf lists.now.named b x m → result.0.serial ≡ number x }
 {
-    match edges.item(lists.number(m)) {
-        Ok(item) => EdgeItem(item),
-        Err(_) => unreachable!(),
-    }
+    EdgeItem(item_at(lists, edges, m))
 }
 
 /// The item of the edge that the member is of, where there is one.

@@ -1,4 +1,4 @@
-//! Edges that are hidden and restored.
+//! Elements that are hidden and restored: how they show, and the edges.
 ghost use Rattle.std.specs.Prelude.{◌≡◌, ℕ, Bool, true, false, not, ◌&&◌, Option, Some, None, MatchOption};
 ghost use Rattle.std.specs.FinMap as map;
 ghost use Rattle.std.specs.FinSet as set;
@@ -7,6 +7,7 @@ ghost use Rattle.leda_base.specs.declared.name.ItemName.TheVariants as names;
 ghost use Rattle.graph_state.specs.declared.name.ListName.{ListName};
 ghost use Rattle.graph_state.specs.declared.name.ListName.TheVariants.{Edges, Out};
 ghost use Rattle.graph_state.specs.declared.name.Element.{Element};
+ghost use Rattle.graph_state.specs.declared.name.Element.TheVariants.{End};
 ghost use Rattle.graph_state.specs.Names.{Has};
 ghost use Rattle.graph_state.specs.Edits.{edge_hidden, edge_restored};
 ghost use Rattle.graph_state.specs.Refusals.{IsThere};
@@ -15,7 +16,10 @@ ghost use Rattle.graph_lists.specs.Named.{head_at, place_at, list_at, shows_at, 
 ghost use Rattle.graph_lists.specs.Heads.{IsMemberOf};
 ghost use Rattle.graph_core.specs.declared.cell.NodeCell.{NodeCell};
 ghost use Rattle.graph_core.specs.declared.cell.EdgeCell.{EdgeCell};
-ghost use Rattle.graph_core.specs.Marks.{Marks, MarksParts, HasParts, IsToken, HasToken, HasTokens, CanShow, ShowsParts};
+ghost use Rattle.graph_core.specs.Marks.{Marks, MarksParts, HasParts, IsTokenIn, HasToken, HasTokens, CanShow, ShowsParts};
+
+mod all;
+mod nodes;
 
 use super::Graph;
 use super::growth::{back_head, back_name};
@@ -37,6 +41,13 @@ fn hide_element(lists: &mut Lists, x: Element, place: &Place)
     }
 }
 
+/// The dart of the edge at its source, or the one at its target.
+fn dart(e: u32, back: bool) -> Element
+    ensures { result ≡ End (record { edge = e; back = back }) }
+{
+    Element::End(Dart { edge: e, back })
+}
+
 /// The edge and its darts show no more.
 fn hide_parts(lists: &mut Lists, e: u32, cell: &EdgeCell)
     requires { (l m n : ListName) × HasParts lists.old.named e cell.now l m n }
@@ -44,22 +55,8 @@ fn hide_parts(lists: &mut Lists, e: u32, cell: &EdgeCell)
     ensures room { SameRoom lists.old lists.new }
 {
     hide_element(lists, Element::Edge(e), &cell.place);
-    hide_element(
-        lists,
-        Element::End(Dart {
-            edge: e,
-            back: false,
-        }),
-        &cell.front,
-    );
-    hide_element(
-        lists,
-        Element::End(Dart {
-            edge: e,
-            back: true,
-        }),
-        &cell.back,
-    );
+    hide_element(lists, dart(e, false), &cell.front);
+    hide_element(lists, dart(e, true), &cell.back);
 }
 
 /// Sets the mark of an edge, which says whether it is hidden by itself.
@@ -77,44 +74,41 @@ fn set_mark(edges: &mut Pool<EdgeCell>, e: EdgeItem, hidden: bool)
 /// The element of the list that the member is of, and its place.
 fn element_at<'a>(
     lists: &Lists,
+    nodes: &'a Pool<NodeCell>,
     edges: &'a Pool<EdgeCell>,
     list: ListName,
     m: Member,
 ) -> (Element, &'a Place)
-    requires { HasToken lists.now.named edges.now list m }
+    requires { HasToken lists.now.named nodes.now edges.now list m }
     ensures { (x : Element) → Has x (list_at lists.now.named list)
-        → IsMemberOf lists.now.named false x m → IsToken lists.now.named edges.now list x
+        → IsMemberOf lists.now.named false x m
+        → IsTokenIn lists.now.named nodes.now edges.now list x
         → (result.0 ≡ x) × (place_at lists.now.named x ≡ Some result.1.now) }
 {
-    let e = lists.number(m);
-    let Ok(cell) = edges.get(Item { slot: 0, serial: e }) else {
+    let serial = lists.number(m);
+    if let ListName::Nodes = list {
+        let Ok(cell) = nodes.get(Item { slot: 0, serial }) else {
+            unreachable!()
+        };
+        return (Element::Node(serial), &cell.place);
+    }
+    let Ok(cell) = edges.get(Item { slot: 0, serial }) else {
         unreachable!()
     };
     if let ListName::Edges = list {
-        return (Element::Edge(e), &cell.place);
+        return (Element::Edge(serial), &cell.place);
     }
     if cell.front.full == m {
-        return (
-            Element::End(Dart {
-                edge: e,
-                back: false,
-            }),
-            &cell.front,
-        );
+        return (dart(serial, false), &cell.front);
     }
-    (
-        Element::End(Dart {
-            edge: e,
-            back: true,
-        }),
-        &cell.back,
-    )
+    (dart(serial, true), &cell.back)
 }
 
 /// The nearest element before x in its list that shows, with its place, and none where no such
 /// element shows.
 fn nearest<'a>(
     lists: &Lists,
+    nodes: &'a Pool<NodeCell>,
     edges: &'a Pool<EdgeCell>,
     list: ListName,
     head: &ListHead,
@@ -124,7 +118,7 @@ fn nearest<'a>(
     requires head { head_at lists.now.named list ≡ Some head.now }
     requires place { place_at lists.now.named x ≡ Some place.now }
     requires there { Has x (list_at lists.now.named list) }
-    requires tokens { HasTokens lists.now.named edges.now list }
+    requires tokens { HasTokens lists.now.named nodes.now edges.now list }
     ensures { MatchOption result (IsFirstShown lists.now.named list x)
         (λ y. IsNextShown lists.now.named list y.0 x
         × (place_at lists.now.named y.0 ≡ Some y.1.now)) }
@@ -132,7 +126,7 @@ fn nearest<'a>(
     let mut at = lists.prev(place.full);
     for _turn in 0..lists.len(head.full) {
         let m = at?;
-        let (y, beside) = element_at(lists, edges, list, m);
+        let (y, beside) = element_at(lists, nodes, edges, list, m);
         if lists.is_shown(y, beside) {
             return Some((y, beside));
         }
@@ -144,6 +138,7 @@ fn nearest<'a>(
 /// The element, which stands in the list, shows from here on.
 fn show_element(
     lists: &mut Lists,
+    nodes: &Pool<NodeCell>,
     edges: &Pool<EdgeCell>,
     list: ListName,
     head: &ListHead,
@@ -153,12 +148,14 @@ fn show_element(
     requires head { head_at lists.old.named list ≡ Some head.now }
     requires place { place_at lists.old.named x ≡ Some place.now }
     requires there { Has x (list_at lists.old.named list) }
-    requires tokens { HasTokens lists.old.named edges.now list }
-    requires hidden { shows_at lists.old.named x ≡ false }
+    requires tokens { HasTokens lists.old.named nodes.now edges.now list }
     ensures named { Marks lists.old.named lists.new.named x true }
     ensures room { SameRoom lists.old lists.new }
 {
-    match nearest(lists, edges, list, head, x, place) {
+    if lists.is_shown(x, place) {
+        return;
+    }
+    match nearest(lists, nodes, edges, list, head, x, place) {
         Some((y, beside)) => lists.show_behind(list, y, beside, x, place),
         None => lists.show_first(list, head, x, place),
     }
@@ -178,47 +175,36 @@ fn show_parts(
     ensures named { ShowsParts lists.old.named lists.new.named nodes.now e cell.now }
     ensures room { SameRoom lists.old lists.new }
 {
-    let from = Item {
-        slot: 0,
-        serial: cell.from,
-    };
-    let to = Item {
-        slot: 0,
-        serial: cell.to,
-    };
-    let (Ok(from), Ok(to)) = (nodes.get(from), nodes.get(to)) else {
+    let (Ok(from), Ok(to)) = (
+        nodes.get(Item {
+            slot: 0,
+            serial: cell.from,
+        }),
+        nodes.get(Item {
+            slot: 0,
+            serial: cell.to,
+        }),
+    ) else {
         unreachable!()
     };
     if from.is_hidden || to.is_hidden {
         return;
     }
-    let front = Element::End(Dart {
-        edge: e,
-        back: false,
-    });
-    let back = Element::End(Dart {
-        edge: e,
-        back: true,
-    });
-    let row = back_name(directed, cell.to);
-    let ins = back_head(directed, to);
+    let outs = ListName::Out(cell.from);
+    let ins = back_name(directed, cell.to);
+    let head = back_head(directed, to);
+    let (edge, front, back) = (Element::Edge(e), dart(e, false), dart(e, true));
     show_element(
         lists,
+        nodes,
         edges,
         ListName::Edges,
         &heads.edges,
-        Element::Edge(e),
+        edge,
         &cell.place,
     );
-    show_element(
-        lists,
-        edges,
-        ListName::Out(cell.from),
-        &from.outs,
-        front,
-        &cell.front,
-    );
-    show_element(lists, edges, row, ins, back, &cell.back);
+    show_element(lists, nodes, edges, outs, &from.outs, front, &cell.front);
+    show_element(lists, nodes, edges, ins, head, back, &cell.back);
 }
 
 impl Graph {

@@ -8,20 +8,20 @@ use Rattle.graph_state.specs.Names.{Has, number}
 use Rattle.std.specs.Prelude.{IfOk}
 use Rattle.graph_lists.specs.Heads.{IsHeadOf}
 use Rattle.graph_core.specs.declared.cell.Heads.{Heads}
-use Rattle.graph_core.proofs.Found.{seen_edges, edge_live, edge_numbers, no_edges, if_ok_map}
+use Rattle.graph_core.proofs.Found.{seen_edges, shown_edge_live, edge_numbers, no_edges, if_ok_map}
 use Rattle.graph_core.proofs.graph.Graph.edges.Goals as goal
 
-pub edges_in-requires : goal.edges_in-requires
-edges_in-requires c =
+pub items_in-requires : goal.items_in-requires
+items_in-requires c =
     let a = c.self.inside in
-    (true, (Edges, ((c.in-Some.heads.edges, (c.self.invariant.kept.heads Edges ∙ ap (option_map (λ (h : Heads). h.edges)) c.in-Some.is, refl)), (λ x i. edge_live a.seen.view a.lists a.heads a.nodes.live a.edges c.self.invariant.kept c.self.invariant.made.1 x (subst (Has x) (seen_edges a.seen.view a.lists a.heads a.nodes.live a.edges c.self.invariant.kept c.self.invariant.made.1) i)))))
+    (true, (Edges, ((c.in-Some.heads.edges, (c.self.invariant.kept.heads Edges ∙ ap (option_map (λ (h : Heads). h.edges)) c.in-Some.is, refl)), (λ x i. shown_edge_live a.seen.view a.lists a.heads a.nodes.live a.edges c.self.invariant.kept c.self.invariant.made.1 x (subst (Has x) (seen_edges a.seen.view a.lists a.heads a.nodes.live a.edges c.self.invariant.kept c.self.invariant.made.1) i)))))
 
 pub returns-in-Some : goal.returns-in-Some
 returns-in-Some c =
     let a = c.self.inside in
     let head : IsHeadOf a.lists.named true Edges c.in-Some.heads.edges.shown = (c.in-Some.heads.edges, (c.self.invariant.kept.heads Edges ∙ ap (option_map (λ (h : Heads). h.edges)) c.in-Some.is, refl)) in
-    subst (λ (s : GraphState). IfOk c.edges_in.result (λ row. list.map (λ (i : EdgeItem). i.0.serial) row ≡ visible_edges s)) c.self.view_is
-    (if_ok_map c.edges_in.result _ (λ row. list.map (λ (i : EdgeItem). i.0.serial) row ≡ visible_edges a.seen.view) (λ row w. w true Edges head ∙ ap (list.map number) (seen_edges a.seen.view a.lists a.heads a.nodes.live a.edges c.self.invariant.kept c.self.invariant.made.1) ∙ edge_numbers (visible_edges a.seen.view)) c.edges_in.ensures)
+    subst (λ (s : GraphState). IfOk c.items_in.result (λ row. list.map (λ (i : EdgeItem). i.0.serial) row ≡ visible_edges s)) c.self.view_is
+    (if_ok_map c.items_in.result _ (λ row. list.map (λ (i : EdgeItem). i.0.serial) row ≡ visible_edges a.seen.view) (λ row w. w true Edges head ∙ ap (list.map number) (seen_edges a.seen.view a.lists a.heads a.nodes.live a.edges c.self.invariant.kept c.self.invariant.made.1) ∙ edge_numbers (visible_edges a.seen.view)) c.items_in.ensures)
 
 pub returns-in-None : goal.returns-in-None
 returns-in-None c =

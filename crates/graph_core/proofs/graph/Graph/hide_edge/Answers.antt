@@ -35,8 +35,8 @@ invariant_of-self c =
     let is = c.show.ensures in
     record {
       kept = subst (λ s. IsKept s u a.heads a.nodes.live q) (sym is)
-          (kept_marked s a.lists a.heads a.nodes.live a.edges.live k e cell at u q true h (hidden_marks s e) cells parts.same room
-          (parts_shown s a.lists a.heads a.nodes.live a.edges.live k e cell at u q true h (hidden_marks s e) cells parts.same room false refl parts));
+          (kept_marked s a.lists a.heads a.nodes.live a.edges.live k e cell at u q true h (hidden_marks s.hidden_edges e) cells parts.same room
+          (parts_shown s a.lists a.heads a.nodes.live a.edges.live k e cell at u q true h (hidden_marks s.hidden_edges e) cells parts.same room false refl parts));
       made = (c.self.invariant.made.0 ∙ sym (ap (λ (s : GraphState). s.made_nodes) is), c.set_mark.ensures.made ∙ c.self.invariant.made.1 ∙ sym (ap (λ (s : GraphState). s.made_edges) is));
       directed = c.self.invariant.directed ∙ sym (ap (λ (s : GraphState). s.directed) is);
       types = (c.self.invariant.types.0 ∙ sym (ap (λ (s : GraphState). s.node_type) is), c.self.invariant.types.1 ∙ sym (ap (λ (s : GraphState). s.edge_type) is));

@@ -11,8 +11,8 @@ use Rattle.graph_core.proofs.Kept.{in_head}
 use Rattle.graph_core.proofs.Found.{seen_in, in_live, end_numbers}
 use Rattle.graph_core.proofs.graph.Graph.in_edges.Goals as goal
 
-pub edges_in-requires : goal.edges_in-requires
-edges_in-requires c =
+pub items_in-requires : goal.items_in-requires
+items_in-requires c =
     let a = c.self.inside in
     let v = c.args.v.0.serial in
     (true, (In v, ((c.in-Ok.cell.now.ins, (in_head a.seen.view a.lists a.heads a.nodes.live a.edges.live c.self.invariant.kept v c.in-Ok.cell.now c.in-Ok.ensures.0, refl)), (λ x i. in_live a.seen.view a.lists a.heads a.nodes.live a.edges c.self.invariant.kept c.self.invariant.made.1 v x (subst (Has x) (seen_in a.seen.view a.lists a.heads a.nodes.live a.edges c.self.invariant.kept c.self.invariant.made.1 v) i)))))
@@ -21,7 +21,7 @@ pub returns-clause-edges : goal.returns-clause-edges
 returns-clause-edges c =
     let a = c.self.inside in
     let v = c.args.v.0.serial in
-    let row = c.in_ok-edges_in.field-0 in
+    let row = c.in_ok-items_in.field-0 in
     let head : IsHeadOf a.lists.named true (In v) c.in-Ok.cell.now.ins.shown = (c.in-Ok.cell.now.ins, (in_head a.seen.view a.lists a.heads a.nodes.live a.edges.live c.self.invariant.kept v c.in-Ok.cell.now c.in-Ok.ensures.0, refl)) in
     subst (λ (s : GraphState). list.map (λ (e : EdgeItem). e.0.serial) row ≡ list.map (λ (d : Dart). d.edge) (visible_in s v)) c.self.view_is
-    (c.in_ok-edges_in.ensures true (In v) head ∙ ap (list.map number) (seen_in a.seen.view a.lists a.heads a.nodes.live a.edges c.self.invariant.kept c.self.invariant.made.1 v) ∙ end_numbers (visible_in a.seen.view v))
+    (c.in_ok-items_in.ensures true (In v) head ∙ ap (list.map number) (seen_in a.seen.view a.lists a.heads a.nodes.live a.edges c.self.invariant.kept c.self.invariant.made.1 v) ∙ end_numbers (visible_in a.seen.view v))

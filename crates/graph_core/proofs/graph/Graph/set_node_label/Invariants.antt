@@ -1,0 +1,5 @@
+use Rattle.graph_state.specs.Edits.{with_node_label}
+use Rattle.graph_core.proofs.graph.Graph.set_node_label.Given as goal
+
+abbrev pub ghost-show_label : goal.ghost-show_label
+ghost-show_label a = with_node_label a.x a.label.now a.seen.now.view

@@ -1,0 +1,4 @@
+use Rattle.graph_lists.proofs.seen.show_beside.Given as goal
+
+abbrev pub ghost-becomes : goal.ghost-becomes
+ghost-becomes g a = g.to
