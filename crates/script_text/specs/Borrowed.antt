@@ -1,5 +1,5 @@
 -- Private: rows, tokens and arguments as they stand in a line and in the code's table, as lists.
-use Rattle.std.specs.Prelude.{◌≡◌, ℕ, Bool, true, false, nat_le, List, ◌∷◌, length, Result, Ok, Err}
+use Rattle.std.specs.Prelude.{◌≡◌, ℕ, ◌+◌, ◌≤◌, Bool, true, false, nat_le, List, [], ◌∷◌, length, drop, Option, Some, None, Result, Ok, Err}
 use Rattle.std.specs.List.{list_all}
 use Rattle.std.specs.Borrow.{Bor}
 use Rattle.script_text.specs.declared.argument.Arg.{Arg}
@@ -14,7 +14,7 @@ use Rattle.script_text.specs.declared.token.Token.{Token as TokenRef}
 use Rattle.script_text.specs.declared.word.Word.{Word}
 use Rattle.script_text.specs.Table.{Entry, forms_of}
 use Rattle.script_text.specs.Line.{with_later, arguments}
-use Rattle.script_text.specs.Token.{Token, Unread}
+use Rattle.script_text.specs.Token.{Token, Unread, tokens_from}
 
 -- a row of the code's table
 abbrev pub entry_seen : Bor (List ℕ) × Word × Bor (List Form) × Memory → Entry
@@ -24,6 +24,18 @@ entry_seen entry =
 -- a token in the line
 abbrev pub token_seen : TokenRef → Token
 token_seen token = record { column = token.column; bytes = token.bytes.now; tail = token.tail.now }
+
+-- the token and those behind it, and none where there is none
+abbrev pub tokens_seen : Option TokenRef → List Token
+tokens_seen None = []
+tokens_seen (Some token) =
+    let len = length token.bytes.now in
+    token_seen token ∷ tokens_from (token.column + len) (drop len token.tail.now)
+
+-- the token is a part of its tail, which ends within a line
+abbrev pub IsWithin : TokenRef → Type 0
+IsWithin token = (length token.bytes.now ≤ length token.tail.now)
+    × (token.column + length token.tail.now ≤ 65537)
 
 -- an argument in the line
 abbrev pub arg_seen : ArgRef → Arg

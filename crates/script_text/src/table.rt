@@ -6,7 +6,7 @@ ghost use Rattle.script_text.specs.Table.{table, entry_of as the_entry, may_begi
 use crate::argument::Misfit;
 use crate::form::{Form, Sight, read_arg};
 use crate::token::Token;
-use crate::word::{EditWord, QueryWord, Word};
+use crate::word::{EditWord, LookWord, QueryWord, Word};
 
 /// Whether running a command takes memory, so that it may be answered by want of memory.
 #[derive(Clone, Copy, Debug, PartialEq, Eq)]
@@ -28,6 +28,18 @@ pub(crate) const FORM_LIMIT: usize = 4;
 
 const NODE: Form = Form::Node(Sight::Visible);
 
+const EDGE: Form = Form::Edge(Sight::Visible);
+
+const LIVE_NODE: Form = Form::Node(Sight::Live);
+
+const LIVE_EDGE: Form = Form::Edge(Sight::Live);
+
+const ELEMENT: Form = Form::Element(Sight::Visible);
+
+const LABEL: Form = Form::OptionalLabel;
+
+const NEW_LABEL: Form = Form::Label;
+
 /// Writes the rows of a table, one a line: the spelling, the word, what is asked of each argument,
 /// and the memory.
 macro_rules! rows {
@@ -40,10 +52,40 @@ macro_rules! rows {
 pub(crate) use rows;
 
 /// The table. All that is said of a command before it runs is said here.
-pub(crate) const TABLE: [Entry; 3] = rows! {
-    "node"   Edit(EditWord::Node)    []            Taken;
-    "edge"   Edit(EditWord::Edge)    [NODE, NODE]  Taken;
-    "reach"  Query(QueryWord::Reach) [NODE, NODE]  TakenByReply;
+pub(crate) const TABLE: [Entry; 33] = rows! {
+    "node"             Edit(EditWord::Node)           [LABEL]              Taken;
+    "edge"             Edit(EditWord::Edge)           [NODE, NODE, LABEL]  Taken;
+    "edge_before"      Edit(EditWord::EdgeBefore)     [EDGE, NODE, LABEL]  Taken;
+    "edge_behind"      Edit(EditWord::EdgeBehind)     [EDGE, NODE, LABEL]  Taken;
+    "del_edge"         Edit(EditWord::DelEdge)        [EDGE]               NotTaken;
+    "del_node"         Edit(EditWord::DelNode)        [NODE]               NotTaken;
+    "rev_edge"         Edit(EditWord::RevEdge)        [EDGE]               NotTaken;
+    "move_edge"        Edit(EditWord::MoveEdge)       [EDGE, NODE, NODE]   NotTaken;
+    "clear"            Edit(EditWord::Clear)          []                   NotTaken;
+    "rev_all"          Edit(EditWord::RevAll)         []                   NotTaken;
+    "label"            Edit(EditWord::SetLabel)       [ELEMENT, NEW_LABEL] Taken;
+    "set_reversal"     Edit(EditWord::SetReversal)    [EDGE, EDGE]         NotTaken;
+    "hide_edge"        Edit(EditWord::HideEdge)       [LIVE_EDGE]          NotTaken;
+    "hide_node"        Edit(EditWord::HideNode)       [LIVE_NODE]          NotTaken;
+    "restore_node"     Edit(EditWord::RestoreNode)    [LIVE_NODE]          NotTaken;
+    "restore_all"      Edit(EditWord::RestoreAll)     []                   NotTaken;
+    "restore_edge"     Edit(EditWord::RestoreEdge)    [LIVE_EDGE]          NotTaken;
+    "count"            Look(LookWord::Count)          []                   NotTaken;
+    "nodes"            Look(LookWord::Nodes)          []                   TakenByReply;
+    "edges"            Look(LookWord::Edges)          []                   TakenByReply;
+    "out"              Look(LookWord::OutEdges)       [NODE]               TakenByReply;
+    "in"               Look(LookWord::InEdges)        [NODE]               TakenByReply;
+    "first_adj"        Look(LookWord::FirstAdj)       [NODE]               NotTaken;
+    "last_adj"         Look(LookWord::LastAdj)        [NODE]               NotTaken;
+    "adj_succ"         Look(LookWord::AdjSucc)        [EDGE]               NotTaken;
+    "adj_pred"         Look(LookWord::AdjPred)        [EDGE]               NotTaken;
+    "cyclic_adj_succ"  Look(LookWord::CyclicAdjSucc)  [EDGE]               NotTaken;
+    "cyclic_adj_pred"  Look(LookWord::CyclicAdjPred)  [EDGE]               NotTaken;
+    "source"           Look(LookWord::Source)         [EDGE]               NotTaken;
+    "target"           Look(LookWord::Target)         [EDGE]               NotTaken;
+    "reversal"         Look(LookWord::Reversal)       [EDGE]               NotTaken;
+    "get_label"        Look(LookWord::GetLabel)       [ELEMENT]            TakenByReply;
+    "reach"            Query(QueryWord::Reach)        [NODE, NODE]         TakenByReply;
 };
 
 /// The rows of the table.

@@ -1,7 +1,7 @@
 //! The tokens of a line.
 ghost use Rattle.std.specs.Prelude.{◌≡◌, ◌+◌, ◌<◌, ◌≤◌, ◌∷◌, [], length, drop, MatchOption, IfSome, option_map, position, not};
 ghost use Rattle.std.specs.List.{position_or_len};
-ghost use Rattle.script_text.specs.Borrowed.{token_seen};
+ghost use Rattle.script_text.specs.Borrowed.{token_seen, tokens_seen, IsWithin};
 ghost use Rattle.script_text.specs.Token.{is_blank as blank, trimmed as without_blanks, next_of, tokens_from, tokens_of};
 
 use crate::line::LINE_LIMIT;
@@ -19,19 +19,22 @@ pub(crate) struct Token<'a> {
 /// The tokens of a line that are still to be read.
 #[derive(Drop)]
 pub(crate) struct Tokens<'a> {
+    /// The column behind the last token that was read.
     column: u32,
-    bytes: &'a [u8],
+    /// The next token, which is looked for once, whether it is asked for beforehand or not.
+    next: Option<Token<'a>>,
 }
 
 impl<'a> Model for Tokens<'a> {
-    ghost use Rattle.std.specs.Prelude.{◌+◌, ◌≤◌, length};
-    ghost use Rattle.script_text.specs.Token.{Unread, tokens_from};
+    ghost use Rattle.std.specs.Prelude.{IfSome};
+    ghost use Rattle.script_text.specs.Token.{Unread};
+    ghost use Rattle.script_text.specs.Borrowed.{tokens_seen, IsWithin};
 
     ghost Value = { Unread };
 
-    ghost view = { λ t. record { column = t.column; tokens = tokens_from t.column t.bytes.now } };
+    ghost view = { λ t. record { column = t.column; tokens = tokens_seen t.next } };
 
-    ghost invariant = { λ t. t.column + length t.bytes.now ≤ 65537 };
+    ghost invariant = { λ t. IfSome t.next IsWithin };
 }
 
 impl<'a> Tokens<'a> {
@@ -43,7 +46,7 @@ impl<'a> Tokens<'a> {
     {
         Tokens {
             column: 1,
-            bytes: trimmed(line),
+            next: first_token(1, trimmed(line)),
         }
     }
 
@@ -56,21 +59,9 @@ impl<'a> Tokens<'a> {
 
     /// The next token, which stays to be read.
     pub fn peek(&self) -> Option<Token<'a>>
-        ensures first { option_map token_seen result ≡ next_of self.now.tokens }
-        ensures rest { MatchOption result (self.now.tokens ≡ [])
-            (λ token. let len = length token.bytes.now in self.now.tokens
-            ≡ token_seen token ∷ tokens_from (token.column + len) (drop len token.tail.now)) }
-        ensures within { IfSome result (λ token. (length token.bytes.now ≤ length token.tail.now)
-            × (token.column + length token.tail.now ≤ 65537)) }
+        ensures { option_map token_seen result ≡ next_of self.now.tokens }
     {
-        let blanks = first_visible(self.bytes)?;
-        let (_, tail) = self.bytes.split_at(blanks);
-        let (bytes, _) = tail.split_at(token_len(tail));
-        Some(Token {
-            column: self.column + blanks as u32,
-            bytes,
-            tail,
-        })
+        self.next
     }
 
     /// Reads the next token.
@@ -80,10 +71,10 @@ impl<'a> Tokens<'a> {
             (λ token. (self.old.tokens ≡ token_seen token ∷ self.new.tokens)
             × (self.new.column ≡ token.column + length token.bytes.now)) }
     {
-        let token = self.peek()?;
+        let token = self.next?;
         let (bytes, rest) = token.tail.split_at(token.bytes.len());
         self.column = token.column + bytes.len() as u32;
-        self.bytes = rest;
+        self.next = first_token(self.column, rest);
         Some(token)
     }
 
@@ -92,8 +83,24 @@ impl<'a> Tokens<'a> {
         ensures column { self.new.column ≡ self.old.column }
         ensures tokens { self.new.tokens ≡ [] }
     {
-        self.bytes = &[];
+        self.next = None;
     }
+}
+
+/// The first token of bytes that don't end with a blank, the first of which stands in the column.
+fn first_token(column: u32, bytes: &[u8]) -> Option<Token<'_>>
+    requires { column + length bytes.now ≤ 65537 }
+    ensures tokens { tokens_seen result ≡ tokens_from column bytes.now }
+    ensures within { IfSome result IsWithin }
+{
+    let blanks = first_visible(bytes)?;
+    let (_, tail) = bytes.split_at(blanks);
+    let (bytes, _) = tail.split_at(token_len(tail));
+    Some(Token {
+        column: column + blanks as u32,
+        bytes,
+        tail,
+    })
 }
 
 fn is_blank(byte: u8) -> bool

@@ -5,6 +5,41 @@
 pub enum EditWord {
     Node,
     Edge,
+    EdgeBefore,
+    EdgeBehind,
+    DelEdge,
+    DelNode,
+    RevEdge,
+    MoveEdge,
+    RevAll,
+    Clear,
+    SetLabel,
+    SetReversal,
+    HideEdge,
+    HideNode,
+    RestoreEdge,
+    RestoreNode,
+    RestoreAll,
+}
+
+/// The word of a command that looks at the graph.
+#[derive(Clone, Copy, Debug, PartialEq, Eq)]
+pub enum LookWord {
+    Count,
+    Nodes,
+    Edges,
+    OutEdges,
+    InEdges,
+    FirstAdj,
+    LastAdj,
+    AdjSucc,
+    AdjPred,
+    CyclicAdjSucc,
+    CyclicAdjPred,
+    Source,
+    Target,
+    Reversal,
+    GetLabel,
 }
 
 /// The word of a command that asks about the graph.
@@ -17,5 +52,6 @@ pub enum QueryWord {
 #[derive(Clone, Copy, Debug, PartialEq, Eq)]
 pub enum Word {
     Edit(EditWord),
+    Look(LookWord),
     Query(QueryWord),
 }

@@ -6,13 +6,20 @@ use std::alloc::AllocError;
 use std::process::Abort;
 use std::test::Fail;
 
-/// The nodes that the arguments of a command name.
-fn assert_command(rt: &impl Abort, alloc: Global, line: &[u8], word: Word, nodes: &[u32]) {
+/// How many arguments a command has, and the nodes that the first of them name.
+fn assert_command(
+    rt: &impl Abort,
+    alloc: Global,
+    line: &[u8],
+    word: Word,
+    count: usize,
+    nodes: &[u32],
+) {
     match parse_line(alloc, line) {
         Ok(Line::Command(command)) => {
             assert_eq!(rt; command.word(), word);
-            assert_eq!(rt; command.args().len(), nodes.len());
-            assert_eq!(rt; command.forms().len(), nodes.len());
+            assert_eq!(rt; command.args().len(), count);
+            assert_eq!(rt; command.forms().len(), count);
             for (arg, node) in command.args().iter().zip(nodes) {
                 assert!(rt;
                     matches!(arg, Arg::Node(number) if number == node),
@@ -27,12 +34,13 @@ fn assert_command(rt: &impl Abort, alloc: Global, line: &[u8], word: Word, nodes
 #[test]
 fn reads_commands(rt: HostRuntime) {
     let edge = Word::Edit(EditWord::Edge);
-    assert_command(&rt, rt.alloc(), b"node", Word::Edit(EditWord::Node), &[]);
+    assert_command(&rt, rt.alloc(), b"node", Word::Edit(EditWord::Node), 1, &[]);
     assert_command(
         &rt,
         rt.alloc(),
         b" edge\tn4294967295 \r n20\r",
         edge,
+        3,
         &[4_294_967_295, 20],
     );
     assert_command(
@@ -40,6 +48,7 @@ fn reads_commands(rt: HostRuntime) {
         rt.alloc(),
         b"reach n9 n9 ",
         Word::Query(QueryWord::Reach),
+        2,
         &[9, 9],
     );
 }
