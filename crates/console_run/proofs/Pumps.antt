@@ -1,13 +1,13 @@
 -- How the reading of a script gets on, and how it ends.
 use Rattle.std.proofs.Common.{◌≡◌, ℕ, ◌+◌, ◌<◌, ◌≤◌, true, false, List, [], ◌++◌, refl, ap, sym, ◌∙◌, subst, length, arith, length-append, Result, Ok, Err, OnOk, OnErr}
-use Rattle.std.specs.Prelude.{is_err}
-use Rattle.std.specs.Io.KnownBytes.{Consumes}
+use Rattle.std.specs.Prelude.{is_err, Some, None}
+use Rattle.std.specs.Io.KnownBytes.{Consumes, Keeps}
 use Rattle.std.proofs.KnownBytes.{Consumes-nil, Consumes-trans, Appends-nil}
 use Rattle.console_state.specs.State.{State, empty}
 use Rattle.leda_edge.specs.Stored.{Stored}
 use Rattle.console_run.specs.Answers.{Known}
 use Rattle.console_run.specs.Progress.{Progress, Pumped, ReadWhole, Broken}
-use Rattle.console_run.specs.Ends.{outside, EndsWriteFault, EndsTooLong}
+use Rattle.console_run.specs.Ends.{outside, EndsReadFault, EndsWriteFault, EndsTooLong}
 use Rattle.console_run.proofs.Advances.{begun}
 
 -- nothing was read
@@ -117,3 +117,35 @@ too-long left files held l1 f1 h1 count s kept p l2 more consumed full beyond = 
     written = p.progress.written;
   };
 }
+
+-- what was consumed is consumed still where known bytes stay as they were
+keeps-consumed : (left l1 l2 : Known) (taken : List ℕ) → Consumes left l1 taken → Keeps l1 l2
+    → Consumes left l2 taken
+keeps-consumed None l1 l2 taken consumed kept = tt
+keeps-consumed (Some xs) None l2 taken consumed kept = absurd consumed
+keeps-consumed (Some xs) (Some ys) None taken consumed kept = absurd kept
+keeps-consumed (Some xs) (Some ys) (Some zs) taken consumed kept =
+    consumed ∙ ap (λ rest. taken ++ rest) (sym kept)
+
+-- a read failed: the lines that were ended before are answered
+pub fault-ends : (left : Known) (files : Stored) (held l1 : Known) (f1 : Stored) (h1 : Known)
+    (count : ℕ) (s : State) (kept : List ℕ)
+    (p : Pumped left files held l1 f1 h1 count s kept) (l2 : Known)
+    → Keeps l1 l2 → count ≤ 1073741824
+    → EndsReadFault (outside left files held) (outside l2 f1 h1)
+fault-ends left files held l1 f1 h1 count s kept p l2 same few =
+    let counted : length p.taken ≡ count = p.counted in
+    record {
+      taken = p.taken;
+      consumed = keeps-consumed left l1 l2 p.taken p.consumed same;
+      within = omega (arith, counted, few);
+      lines = p.progress.lines;
+      unfinished = p.progress.rest;
+      split = p.progress.split;
+      answered = record {
+        answers = p.progress.answers;
+        state = s;
+        session = p.progress.session;
+        written = p.progress.written;
+      };
+    }

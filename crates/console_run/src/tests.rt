@@ -31,7 +31,7 @@ fn answers_each_command(rt: HostRuntime) -> Result<(), Fail> {
         ),
         ("\n # a comment\n\t\r\nnode\r\n", "= n1\n"),
         (
-            "node n1\nnodes\nedge\nedge n0 n1\nedge n1 \n",
+            "node n1\nvertex\nedge\nedge n0 n1\nedge n1 \n",
             "! syntax 6\n! syntax 1\n! syntax 5\n! syntax 6\n! syntax 8\n",
         ),
         ("node\u{0}\n\u{e9}\nnode", "! syntax 1\n! syntax 1\n= n1\n"),
@@ -42,6 +42,63 @@ fn answers_each_command(rt: HostRuntime) -> Result<(), Fail> {
         (
             "node\nreach n1 n2\nreach n3 n2\nreach n1 e1\nreach n1\nreach n1 n1 n1\n",
             "= n1\n! unknown n2\n! unknown n3\n! syntax 10\n! syntax 9\n! syntax 13\n",
+        ),
+        (
+            "node |{a b}|\nnode\nedge n1 n2 |{7}|\nget_label n1\nget_label n2\nget_label e1\n",
+            "= n1\n= n2\n= e1\n= |{a b}|\n= |{}|\n= |{7}|\n",
+        ),
+        (
+            "node\nnode\nedge n1 n2\nedge n1 n1\nedge n2 n1\ncount\nnodes\nedges\nout n1\nin n1\n",
+            "= n1\n= n2\n= e1\n= e2\n= e3\n= 2 3\n= n1 n2\n= e1 e2 e3\n= e1 e2\n= e2 e3\n",
+        ),
+        (
+            "node\nnode\nedge n1 n2\nedge n1 n1\nedge n1 n2\nfirst_adj n1\nlast_adj n1\nfirst_adj n2\n\
+             adj_succ e1\nadj_succ e3\nadj_pred e2\nadj_pred e1\n",
+            "= n1\n= n2\n= e1\n= e2\n= e3\n= e1\n= e3\n= nil\n= e2\n= nil\n= e1\n= nil\n",
+        ),
+        (
+            "node\nnode\nedge n1 n2\nedge n1 n1\ncyclic_adj_succ e1\ncyclic_adj_succ e2\n\
+             cyclic_adj_pred e1\ncyclic_adj_pred e2\nsource e1\ntarget e1\n",
+            "= n1\n= n2\n= e1\n= e2\n= e2\n= e1\n= e2\n= e1\n= n1\n= n2\n",
+        ),
+        (
+            "node\nnode\nedge n1 n2\nedge n1 n2\nedge_before e2 n1 |{x}|\nedge_behind e2 n2\nout n1\n\
+             edges\nget_label e3\nlabel e3 |{y z}|\nget_label e3\nlabel n1 |{w}|\nget_label n1\n",
+            "= n1\n= n2\n= e1\n= e2\n= e3\n= e4\n= e1 e3 e2 e4\n= e1 e2 e3 e4\n= |{x}|\n=\n\
+             = |{y z}|\n=\n= |{w}|\n",
+        ),
+        (
+            "node\nnode\nedge n1 n2\nedge n1 n2\nedge n1 n2\nhide_edge e2\ndel_edge e1\ndel_edge e2\n\
+             edge n1 n2\nrestore_edge e2\nout n1\ndel_edge e1\nrev_all\nout n2\nout n1\nsource e2\n",
+            "= n1\n= n2\n= e1\n= e2\n= e3\n=\n=\n! hidden e2\n= e4\n=\n= e2 e3 e4\n! dead e1\n=\n\
+             = e2 e3 e4\n=\n= n2\n",
+        ),
+        (
+            "node\ndel_node n1\nnode\nout n1\n",
+            "= n1\n=\n= n2\n! dead n1\n",
+        ),
+        (
+            "node\nnode\nedge n1 n2\nedge n1 n2\nhide_edge e1\nhide_node n2\nout n1\ndel_edge e2\n\
+             restore_node n2\nout n1\nrestore_edge e1\nout n1\nrestore_edge e1\n",
+            "= n1\n= n2\n= e1\n= e2\n=\n=\n=\n! hidden e2\n=\n= e2\n=\n= e1 e2\n! not_hidden e1\n",
+        ),
+        (
+            "node\nnode\nnode\nedge n1 n2\nedge n1 n3\nedge n2 n1\nrev_edge e1\nout n2\nin n1\n\
+             move_edge e3 n3 n2\nout n2\nout n3\nhide_edge e2\ndel_node n3\nedges\nrestore_edge e2\n\
+             hide_node n1\nedges\nhide_node n1\nnodes\nrestore_all\nnodes\nedges\nclear\ncount\nnode\n",
+            "= n1\n= n2\n= n3\n= e1\n= e2\n= e3\n=\n= e3 e1\n= e3 e1\n=\n= e1\n= e3\n=\n=\n= e1\n\
+             ! dead e2\n=\n=\n! hidden n1\n= n2\n=\n= n1 n2\n= e1\n=\n= 0 0\n= n4\n",
+        ),
+        (
+            "node\nnode\nedge n1 n2\nedge n2 n1\nedge n1 n2\nset_reversal e1 e2\nset_reversal e1 e3\n\
+             set_reversal e1 e1\nreversal e2\nreversal e3\nset_reversal e2 e3\nreversal e1\n",
+            "= n1\n= n2\n= e1\n= e2\n= e3\n=\n! opposite\n! opposite\n= e1\n= nil\n=\n= nil\n",
+        ),
+        (
+            "node\nnode\nedge n1 n2\nedge n1 n2\nhide_edge e1\nhide_edge e1\nout n1\nreach n1 n2\n\
+             source e1\ncount\nrestore_edge e1\nrestore_edge e1\nout n1\nreach n1 n2\nhide_edge e3\n",
+            "= n1\n= n2\n= e1\n= e2\n=\n! hidden e1\n= e2\n= walk e2\n! hidden e1\n= 2 1\n=\n\
+             ! not_hidden e1\n= e1 e2\n= walk e1\n! unknown e3\n",
         ),
     ];
     for (script, replies) in rows {

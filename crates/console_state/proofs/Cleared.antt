@@ -1,6 +1,7 @@
 -- What the arguments of a command meet where nothing is refused of them.
-use Rattle.std.proofs.Common.{◌≡◌, Bool, true, false, List, [], ◌∷◌, refl, ap, ◌∙◌, sym, subst, cond}
-use Rattle.std.specs.Prelude.{Option, None, Some, option_map}
+use Rattle.std.proofs.Common.{◌≡◌, ◌≤◌, ◌-◌, Bool, true, false, List, [], ◌∷◌, length, take, drop, get_or, refl, ap, ◌∙◌, sym, subst, cond, arith}
+use Rattle.std.proofs.lemmas.List.{take_all}
+use Rattle.std.specs.Prelude.{Option, None, Some, is_some, not, option_map}
 use Rattle.std.specs.Option.{option_or}
 use Rattle.std.specs.Bool.{MatchBool}
 use Rattle.leda_base.specs.declared.ItemName.{ItemName}
@@ -11,13 +12,15 @@ use Rattle.script_text.specs.declared.form.Form.{Form}
 use Rattle.script_text.specs.declared.word.Word.{Word}
 use Rattle.script_text.specs.Said.{Said}
 use Rattle.script_text.specs.Table.{forms_of}
+use Rattle.console_state.specs.declared.order.Rule.{Rule}
 use Rattle.console_state.specs.declared.order.Rule.TheVariants as rules
 use Rattle.console_state.specs.declared.order.Standing.{Standing}
 use Rattle.console_state.specs.declared.order.Standing.TheVariants.{Unknown, Dead, Hidden, Visible}
 use Rattle.console_state.specs.State.{State}
 use Rattle.console_state.specs.Views.{standing}
-use Rattle.console_state.specs.Order.{gone, hidden, asks_visible, refusal_by, leftmost, first_of, refusal_among}
-use Rattle.console_state.specs.Clear.{IsLive, IsMet, AreMet}
+use Rattle.console_state.specs.Order.{gone, hidden, asks_visible, refusal_by, leftmost, wrong_kind, first_of, refusal_among}
+use Rattle.console_state.proofs.Visible.{stands_in}
+use Rattle.console_state.specs.Clear.{IsLive, IsMet, AreMet, IsClear, AreClear}
 
 -- the first of six, each of which is changed
 pub first_of-six : {A B : Type 0} (f : A → B) (a b c d e g : Option A)
@@ -51,13 +54,12 @@ stands false Visible x g h = tt
 met : (s : State) (form : Form) (arg : Arg) (later : List Arg)
     → refusal_by s rules.Gone form arg later ≡ None
     → refusal_by s rules.Hidden form arg later ≡ None
-    → IsMet s form arg later
-met s form (args.Node v) later g h = stands (asks_visible form) (standing s (items.Node v))
-    (items.Node v) g h
-met s form (args.Edge e) later g h = stands (asks_visible form) (standing s (items.Edge e))
-    (items.Edge e) g h
-met s form (args.Cell i) later g h = stands (asks_visible form) (standing s (items.Cell i))
-    (items.Cell i) g h
+    → IsMet s.graph form arg
+met s form (args.Node v) later g h = stands_in s form (items.Node v)
+    (stands (asks_visible form) (standing s (items.Node v)) (items.Node v) g h)
+met s form (args.Edge e) later g h = stands_in s form (items.Edge e)
+    (stands (asks_visible form) (standing s (items.Edge e)) (items.Edge e) g h)
+met s form (args.Cell i) later g h = tt
 met s form (args.Name name) later g h = tt
 met s form (args.Num number) later g h = tt
 met s form (args.Label label) later g h = tt
@@ -69,7 +71,7 @@ met s form (args.Kept sort) later g h = tt
 -- arguments of which neither rule refuses anything
 all-met : (s : State) (forms : List Form) (args : List Arg)
     → leftmost s rules.Gone forms args ≡ None → leftmost s rules.Hidden forms args ≡ None
-    → AreMet s forms args
+    → AreMet s.graph forms args
 all-met s [] [] g h = tt
 all-met s [] (arg ∷ later) g h = tt
 all-met s (form ∷ forms) [] g h = tt
@@ -83,12 +85,78 @@ all-met s (form ∷ forms) (arg ∷ later) g h =
 pub cleared : (s : State) (read : Word) (forms : List Form) (args : List Arg) (word : Word)
     (said : Said) (again : List Arg) → None ≡ refusal_among s read forms args
     → forms ≡ forms_of said.word → args ≡ said.args → word ≡ said.word → again ≡ said.args
-    → AreMet s (forms_of word) again
+    → AreMet s.graph (forms_of word) again
 cleared s read forms args word said again h f a w b =
     let one = or-none _ _ (sym h) in
     let two = or-none _ _ one.1 in
     let three = or-none _ _ two.1 in
     let four = or-none _ _ three.1 in
     let met = all-met s forms args two.0 four.0 in
-    subst (λ all. AreMet s (forms_of word) all) (a ∙ sym b)
-    (subst (λ forms. AreMet s forms args) (f ∙ ap forms_of (sym w)) met)
+    subst (λ all. AreMet s.graph (forms_of word) all) (a ∙ sym b)
+    (subst (λ forms. AreMet s.graph forms args) (f ∙ ap forms_of (sym w)) met)
+
+-- arguments of which no rule refuses anything
+pub all-clear : (s : State) (rule : Rule) (forms : List Form) (args : List Arg)
+    → AreClear s forms args → leftmost s rule forms args ≡ None
+all-clear s rule [] [] clear = refl
+all-clear s rule [] (arg ∷ later) clear = refl
+all-clear s rule (form ∷ forms) [] clear = refl
+all-clear s rule (form ∷ forms) (arg ∷ later) clear =
+    ap (λ one. option_or one (leftmost s rule forms later)) (clear.0 rule later)
+    ∙ all-clear s rule forms later clear.1
+
+-- none of six
+none_of-six : {A : Type 0} (a b c d e g : Option A)
+    → a ≡ None → b ≡ None → c ≡ None → d ≡ None → e ≡ None → g ≡ None
+    → first_of (a ∷ b ∷ c ∷ d ∷ e ∷ g ∷ []) ≡ None
+none_of-six a b c d e g h i j k l m = rw (h, i, j, k, l, m) refl
+
+-- nor of the command
+pub free : (s : State) (word : Word) (forms : List Form) (args : List Arg)
+    → wrong_kind s word ≡ None → AreClear s forms args → refusal_among s word forms args ≡ None
+free s word forms args kind clear =
+    none_of-six _ _ _ _ _ _ (all-clear s rules.Absent forms args clear)
+    (all-clear s rules.Gone forms args clear)
+    (all-clear s rules.Stray forms args clear) (all-clear s rules.Hidden forms args clear) kind
+    (all-clear s rules.Taken forms args clear)
+
+-- an item that stands as is asked
+not-gone : (test : Bool) (at : Standing) (x : ItemName) → MatchBool test (at ≡ Visible) (IsLive at)
+    → (gone at x ≡ None) × (cond test (hidden at x) None ≡ None)
+not-gone true Unknown x h = cc
+not-gone true Dead x h = cc
+not-gone true Hidden x h = cc
+not-gone true Visible x h = (refl, refl)
+not-gone false Unknown x h = absurd h
+not-gone false Dead x h = absurd h
+not-gone false Hidden x h = (refl, refl)
+not-gone false Visible x h = (refl, refl)
+
+-- one argument more, in front of the others
+pub clear-more : (s : State) (forms : List Form) (args : List Arg) (form : Form) (arg : Arg)
+    → 1 ≤ length forms → 1 ≤ length args → arg ≡ get_or args 0 arg
+    → IsClear s (get_or forms 0 form) arg
+    → AreClear s (take (length forms - 1) (drop 1 forms)) (take (length args - 1) (drop 1 args))
+    → AreClear s forms args
+clear-more s [] args form arg f a is one others = absurd (omega (arith, f))
+clear-more s (x ∷ xs) [] form arg f a is one others = absurd (omega (arith, a))
+clear-more s (x ∷ xs) (y ∷ ys) form arg f a is one others =
+    let fs : take (length (x ∷ xs) - 1) xs ≡ xs = take_all (length (x ∷ xs) - 1) xs (omega arith) in
+    let same : take (length (y ∷ ys) - 1) ys ≡ ys = take_all (length (y ∷ ys) - 1) ys (omega arith) in (
+      subst (IsClear s x) is one,
+      subst (λ ys. AreClear s xs ys) same
+          (subst (λ xs. AreClear s xs (take (length (y ∷ ys) - 1) ys)) fs others),
+    )
+
+-- nothing is asked of no arguments
+pub clear-none : (s : State) (forms : List Form) (args : List Arg)
+    → (1 ≤ length forms → 1 ≤ length args → ⊥) → AreClear s forms args
+clear-none s [] args none = tt
+clear-none s (x ∷ xs) [] none = tt
+clear-none s (x ∷ xs) (y ∷ ys) none = absurd (none (omega arith) (omega arith))
+
+-- there is none
+pub none-there : {A : Type 0} (found : Option A) (none : Bool) → is_some found ≡ not none
+    → none ≡ true → found ≡ None
+none-there None none is e = refl
+none-there (Some x) none is e = cc

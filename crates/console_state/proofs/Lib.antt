@@ -1,4 +1,5 @@
-pub mod Numbers
-pub mod Named
+pub mod Visible
 pub mod Cleared
 pub mod Reaches
+pub mod Named
+pub mod Looks

@@ -1,5 +1,5 @@
 -- What a right answer numbers has a name.
-use Rattle.std.proofs.Common.{◌≡◌, ℕ, zero, suc, ◌<◌, List, [], ◌∷◌, length, get_or, subst, sym, arith}
+use Rattle.std.proofs.Common.{◌≡◌, ℕ, zero, suc, ◌<◌, List, [], ◌∷◌, length, map, get_or, subst, sym, ap, refl, ◌∙◌, arith}
 use Rattle.std.specs.List.{All}
 use Rattle.graph_defs.specs.declared.net.Net.{Net}
 use Rattle.graph_defs.specs.declared.answer.Reach.{Reach}
@@ -9,8 +9,11 @@ use Rattle.graph_defs.specs.Walk.{IsWalk, IsReach}
 use Rattle.reply_text.specs.declared.reply.Answer.TheVariants as answers
 use Rattle.reply_text.specs.declared.reply.Named.{Named}
 use Rattle.reply_text.specs.Text.{IsReachNamed, IsAnswerNamed}
-use Rattle.console_state.specs.Views.{numbers}
-use Rattle.console_state.proofs.Numbers.{length-numbers}
+use Rattle.graph_state.specs.State.{GraphState}
+use Rattle.hide_restore.specs.declared.shown.Shown.{Shown}
+use Rattle.hide_restore.specs.Net.{numbers_of_nodes, numbers_of_edges}
+use Rattle.console_state.proofs.Reaches.{net_nodes, net_arcs}
+use Rattle.console_state.specs.Shown.{IsShown}
 
 -- what holds of the first and of all others
 cons_all : (limit arc : ℕ) (arcs : List ℕ) → arc < limit → All (λ a. a < limit) arcs
@@ -25,18 +28,26 @@ walk_within net v w [] walk = λ k d within. absurd (omega arith)
 walk_within net v w (arc ∷ arcs) walk =
     cons_all (length net.arcs) arc arcs walk.0 (walk_within net (target net arc) w arcs walk.2)
 
--- a right answer to `reach` numbers what has a name
-reach-named : (net : Net) (v w : ℕ) (answer : Reach) → IsReach net v w answer
-    → IsReachNamed (numbers net.n) (numbers (length net.arcs)) answer
-reach-named net v w (Walk arcs) walk = let P : ℕ → Type 0 = λ n. All (λ arc. arc < n) arcs in
-    subst P (sym (length-numbers (length net.arcs))) (walk_within net v w arcs walk)
-reach-named net v w (Closed set) closed = let P : ℕ → Type 0 = λ n. All (λ node. node < n) set in
-    subst P (sym (length-numbers net.n)) closed.cut.nodes.among
+-- a right answer to `reach` numbers what has a name, where each node and each arc of the net has one
+reach-named : (net : Net) (nodes edges : List ℕ) (v w : ℕ) (answer : Reach)
+    → length nodes ≡ net.n → length edges ≡ length net.arcs → IsReach net v w answer
+    → IsReachNamed nodes edges answer
+reach-named net nodes edges v w (Walk arcs) n m walk = let P : ℕ → Type 0 = λ n. All (λ arc. arc < n) arcs in
+    subst P (sym m) (walk_within net v w arcs walk)
+reach-named net nodes edges v w (Closed set) n m closed = let P : ℕ → Type 0 = λ n. All (λ node. node < n) set in
+    subst P (sym n) closed.cut.nodes.among
 
-pub answer-named : (net : Net) (v w : ℕ) (answer : Reach) (named : Named)
-    → named.nodes ≡ numbers net.n
-    → named.edges ≡ numbers (length net.arcs) → named.answer ≡ answers.Reach answer
-    → IsReach net v w answer
-    → IsAnswerNamed named.nodes named.edges named.answer
-answer-named net v w answer named nodes edges is right =
-    rw (nodes, edges, is) (reach-named net v w answer right)
+module _ (g : GraphState) (shown : Shown) (is : IsShown g shown) where
+  nodes_named : length (numbers_of_nodes shown.nodes) ≡ shown.net.n
+  nodes_named = ap length is.nodes ∙ sym (ap (λ (net : Net). net.n) is.net ∙ net_nodes g)
+
+  edges_named : length (numbers_of_edges shown.edges) ≡ length shown.net.arcs
+  edges_named = ap length is.edges ∙ sym (ap (λ (net : Net). length net.arcs) is.net ∙ net_arcs g)
+
+  pub answer-named : (v w : ℕ) (answer : Reach) (named : Named)
+      → named.nodes ≡ numbers_of_nodes shown.nodes
+      → named.edges ≡ numbers_of_edges shown.edges → named.answer ≡ answers.Reach answer
+      → IsReach shown.net v w answer
+      → IsAnswerNamed named.nodes named.edges named.answer
+  answer-named v w answer named nodes edges same right =
+      rw (nodes, edges, same) (reach-named shown.net (numbers_of_nodes shown.nodes) (numbers_of_edges shown.edges) v w answer nodes_named edges_named right)

@@ -1,15 +1,33 @@
 -- Private: what the arguments of a command meet where nothing stands in its way.
-use Rattle.std.specs.Prelude.{◌≡◌, List, ◌∷◌, ⊤}
+use Rattle.std.specs.Prelude.{◌≡◌, List, [], ◌∷◌, None, ⊤}
 use Rattle.std.specs.Bool.{MatchBool}
+use Rattle.leda_base.specs.declared.ItemName.{ItemName}
 use Rattle.leda_base.specs.declared.ItemName.TheVariants as items
+use Rattle.graph_state.specs.State.{GraphState}
+use Rattle.graph_state.specs.Refusals.{IsThere, AreVisible}
 use Rattle.script_text.specs.declared.argument.Arg.{Arg}
 use Rattle.script_text.specs.declared.argument.Arg.TheVariants as args
 use Rattle.script_text.specs.declared.form.Form.{Form}
+use Rattle.console_state.specs.declared.order.Rule.{Rule}
 use Rattle.console_state.specs.declared.order.Standing.{Standing}
 use Rattle.console_state.specs.declared.order.Standing.TheVariants.{Unknown, Dead, Hidden, Visible}
 use Rattle.console_state.specs.State.{State}
-use Rattle.console_state.specs.Views.{standing}
-use Rattle.console_state.specs.Order.{asks_visible}
+use Rattle.console_state.specs.Order.{asks_visible, refusal_by}
+
+-- the item is visible where the form asks that, and there at least
+abbrev pub StandsIn : GraphState → Form → ItemName → Type 0
+StandsIn g form x = MatchBool (asks_visible form) (AreVisible g (x ∷ [])) (IsThere g x)
+
+-- what the form asks of an argument that names a node or an edge holds
+abbrev pub IsMet : GraphState → Form → Arg → Type 0
+IsMet g form (args.Node v) = StandsIn g form (items.Node v)
+IsMet g form (args.Edge e) = StandsIn g form (items.Edge e)
+IsMet g form arg = ⊤
+
+-- what each form asks holds
+abbrev pub AreMet : GraphState → List Form → List Arg → Type 0
+AreMet g (form ∷ forms) (arg ∷ later) = IsMet g form arg × AreMet g forms later
+AreMet g forms args = ⊤
 
 -- the item is there
 abbrev pub IsLive : Standing → Type 0
@@ -18,18 +36,15 @@ IsLive Dead = ⊥
 IsLive Hidden = ⊤
 IsLive Visible = ⊤
 
--- the item stands as the form asks
+-- it stands as the form asks
 abbrev pub StandsFor : Form → Standing → Type 0
 StandsFor form standing = MatchBool (asks_visible form) (standing ≡ Visible) (IsLive standing)
 
--- what the form asks of the argument, which comes before others, holds
-abbrev pub IsMet : State → Form → Arg → List Arg → Type 0
-IsMet s form (args.Node v) later = StandsFor form (standing s (items.Node v))
-IsMet s form (args.Edge e) later = StandsFor form (standing s (items.Edge e))
-IsMet s form (args.Cell i) later = StandsFor form (standing s (items.Cell i))
-IsMet s form arg later = ⊤
+-- no rule refuses anything of the argument, whatever comes behind it
+abbrev pub IsClear : State → Form → Arg → Type 0
+IsClear s form arg = (rule : Rule) (later : List Arg) → refusal_by s rule form arg later ≡ None
 
--- what each form asks holds
-abbrev pub AreMet : State → List Form → List Arg → Type 0
-AreMet s (form ∷ forms) (arg ∷ later) = IsMet s form arg later × AreMet s forms later
-AreMet s forms args = ⊤
+-- no rule refuses anything of any argument
+abbrev pub AreClear : State → List Form → List Arg → Type 0
+AreClear s (form ∷ forms) (arg ∷ later) = IsClear s form arg × AreClear s forms later
+AreClear s forms args = ⊤

@@ -1,8 +1,11 @@
 pub mod State
 pub mod Graph
+pub mod Look
 pub mod Views
 pub mod Order
 pub mod Query
 pub mod Step
 pub mod Obstacles
 pub mod Clear
+pub mod Shown
+pub mod Refused

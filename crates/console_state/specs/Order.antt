@@ -10,9 +10,10 @@ use Rattle.script_text.specs.declared.form.Form.TheVariants as forms
 use Rattle.script_text.specs.declared.form.Kinds.{Kinds}
 use Rattle.script_text.specs.declared.form.Kinds.TheVariants as kinds
 use Rattle.script_text.specs.declared.form.Sight.TheVariants as sights
+use Rattle.script_text.specs.declared.word.LookWord.TheVariants as looks
 use Rattle.script_text.specs.declared.word.QueryWord.TheVariants as queries
 use Rattle.script_text.specs.declared.word.Word.{Word}
-use Rattle.script_text.specs.declared.word.Word.TheVariants.{Edit, Query}
+use Rattle.script_text.specs.declared.word.Word.TheVariants.{Edit, Look, Query}
 use Rattle.script_text.specs.Said.{Said}
 use Rattle.script_text.specs.Table.{forms_of}
 use Rattle.reply_text.specs.declared.refusal.ObjectName.TheVariants as objects
@@ -101,6 +102,8 @@ leftmost s rule forms args = None
 -- commands that ask for a directed graph
 abbrev pub asks_directed : Word → Bool
 asks_directed (Edit word) = false
+asks_directed (Look looks.InEdges) = true
+asks_directed (Look word) = false
 asks_directed (Query queries.Reach) = true
 
 -- the graph is of the wrong kind

@@ -3,22 +3,28 @@ use Rattle.std.specs.Prelude.{◌≡◌, ◌⊎◌, List, Option, Some, None, op
 use Rattle.leda_edge.specs.Stored.{Stored}
 use Rattle.script_text.specs.declared.argument.Arg.{Arg}
 use Rattle.script_text.specs.declared.word.EditWord.{EditWord}
+use Rattle.script_text.specs.declared.word.LookWord.{LookWord}
 use Rattle.script_text.specs.declared.word.QueryWord.{QueryWord}
 use Rattle.script_text.specs.declared.word.Word.{Word}
-use Rattle.script_text.specs.declared.word.Word.TheVariants.{Edit, Query}
+use Rattle.script_text.specs.declared.word.Word.TheVariants.{Edit, Look, Query}
 use Rattle.script_text.specs.Said.{Said}
 use Rattle.script_text.specs.Table.{may_lack_memory}
 use Rattle.reply_text.specs.declared.refusal.Refusal.{Refusal}
 use Rattle.reply_text.specs.declared.reply.Reply.{Reply}
-use Rattle.reply_text.specs.Outcome.{Outcome, refused, LacksMemory, IsQuiet}
+use Rattle.reply_text.specs.Outcome.{Outcome, done, refused, LacksMemory, IsQuiet}
 use Rattle.console_state.specs.State.{State, on_graph}
 use Rattle.console_state.specs.Graph.{graph_edited}
+use Rattle.console_state.specs.Look.{graph_looked}
 use Rattle.console_state.specs.Order.{first_refusal}
 use Rattle.console_state.specs.Query.{Answers}
 
 -- an edit by its word, if these are arguments that the word takes
 abbrev pub edited : EditWord → List Arg → State → Option (Outcome State)
 edited word args s = option_map (on_graph s) (graph_edited word args s.graph)
+
+-- a look by its word, if these are arguments that the word takes
+abbrev pub looked : LookWord → List Arg → State → Option (Outcome State)
+looked word args s = option_map (done s) (graph_looked word args s.graph)
 
 -- the session with the answer to a query kept for a later check; that to `reach` isn't kept
 abbrev pub with_kept : Said → Reply → State → State
@@ -28,6 +34,12 @@ with_kept said reply s = s
 pub record Edits (word : EditWord) (args : List Arg) (s : State) (f : Stored)
     (reply : Reply) (s' : State) (f' : Stored) : Type 0 where
   pub outcome : edited word args s ≡ Some (s', reply)
+  pub files : f' ≡ f
+
+-- the look tells what its word says; nothing changes
+pub record LooksAt (word : LookWord) (args : List Arg) (s : State) (f : Stored)
+    (reply : Reply) (s' : State) (f' : Stored) : Type 0 where
+  pub outcome : looked word args s ≡ Some (s', reply)
   pub files : f' ≡ f
 
 -- the query is answered, and its answer is kept; nothing else changes
@@ -46,6 +58,7 @@ pub record IsRefusedBy (refusal : Refusal) (s : State) (f : Stored)
 -- what a command by its word does, where nothing stands in its way
 abbrev pub Does : Word → List Arg → State → Stored → Reply → State → Stored → Type 0
 Does (Edit word) args s f reply s' f' = Edits word args s f reply s' f'
+Does (Look word) args s f reply s' f' = LooksAt word args s f reply s' f'
 Does (Query word) args s f reply s' f' = Asks word args s f reply s' f'
 
 -- the refusal, if there is one, or else what the command does

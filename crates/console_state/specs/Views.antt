@@ -1,23 +1,35 @@
 -- What is asked of a session: how an item stands, which objects there are, its net with its names.
-use Rattle.std.specs.Prelude.{◌≡◌, ℕ, ◌+◌, Bool, true, false, if◌then◌else◌, List, length, map, slice_get, Some}
-use Rattle.std.specs.List.{range_with_len}
+use Rattle.std.specs.Prelude.{◌≡◌, ℕ, Bool, false, ◌==◌, ◌&&◌, nat_lt, nat_le, if◌then◌else◌, List, slice_get, Some}
+use Rattle.std.specs.List.{list_any}
 use Rattle.leda_base.specs.declared.ItemName.{ItemName}
 use Rattle.leda_base.specs.declared.ItemName.TheVariants as items
 use Rattle.graph_defs.specs.declared.net.Net.{Net}
+use Rattle.graph_state.specs.State.{shows_node, shows_edge}
+use Rattle.hide_restore.specs.Net.{shown_net, node_numbers, edge_numbers}
 use Rattle.script_text.specs.declared.form.Kinds.{Kinds}
 use Rattle.console_state.specs.declared.order.Standing.{Standing}
-use Rattle.console_state.specs.declared.order.Standing.TheVariants.{Unknown, Visible}
+use Rattle.console_state.specs.declared.order.Standing.TheVariants.{Unknown, Dead, Hidden, Visible}
 use Rattle.console_state.specs.State.{State}
-use Rattle.console_state.specs.Graph.{is_among}
 
--- an item that was made stands for good, and is seen
-abbrev pub shown_if : Bool → Standing
-shown_if made = if made then Visible else Unknown
+-- the number is in the list
+abbrev pub is_listed : ℕ → List ℕ → Bool
+is_listed number numbers = list_any (λ k. k == number) numbers
+
+-- the number is one of so many that were given
+abbrev pub is_given : ℕ → ℕ → Bool
+is_given made number = nat_lt 0 number && nat_le number made
+
+-- how an item stands: it is there, and shows or doesn't; or it was there; or it never was
+abbrev pub stands : Bool → Bool → Bool → Standing
+stands listed shows given =
+    if listed then (if shows then Visible else Hidden) else (if given then Dead else Unknown)
 
 -- how an item stands; no container has items yet
 abbrev pub standing : State → ItemName → Standing
-standing s (items.Node v) = shown_if (is_among s.graph.n v)
-standing s (items.Edge e) = shown_if (is_among (length s.graph.arcs) e)
+standing s (items.Node v) =
+    stands (is_listed v s.graph.nodes) (shows_node s.graph v) (is_given s.graph.made_nodes v)
+standing s (items.Edge e) =
+    stands (is_listed e s.graph.edges) (shows_edge s.graph e) (is_given s.graph.made_edges e)
 standing s (items.Cell i) = Unknown
 
 -- an object of these kinds has the name; there are no objects yet
@@ -30,23 +42,19 @@ holds_cell s kinds i = false
 
 -- the graph is directed
 abbrev pub is_directed : State → Bool
-is_directed s = true
+is_directed s = s.graph.directed
 
--- the net that queries are asked of
+-- the net that queries are asked of: the visible graph
 abbrev pub net_of : State → Net
-net_of s = s.graph
-
--- the numbers from 1 to a count
-abbrev pub numbers : ℕ → List ℕ
-numbers count = map (λ place. place + 1) (range_with_len 0 count)
+net_of s = shown_net s.graph
 
 -- the number in the name of each node of the net, in the order of the net
 abbrev pub node_names : State → List ℕ
-node_names s = numbers s.graph.n
+node_names s = node_numbers s.graph
 
 -- the number in the name of each arc of the net
 abbrev pub edge_names : State → List ℕ
-edge_names s = numbers (length s.graph.arcs)
+edge_names s = edge_numbers s.graph
 
 -- the name stands at a place of which P holds
 abbrev pub AtPlaceOf : List ℕ → ℕ → (ℕ → Type 0) → Type 0

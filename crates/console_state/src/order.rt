@@ -1,14 +1,17 @@
 //! What stands in the way of a command, by the forms of its arguments, in one order for all.
-ghost use Rattle.std.specs.Prelude.{◌≡◌, option_map, IfSome};
+ghost use Rattle.std.specs.Prelude.{◌≡◌, None, option_map, IfSome};
+ghost use Rattle.std.specs.Bool.{OnTrue};
 ghost use Rattle.std.specs.List.{AllZip};
 ghost use Rattle.script_text.specs.Form.{keeps_bytes, IsOfForm};
 ghost use Rattle.script_text.specs.Table.{keeps_any};
 ghost use Rattle.console_state.specs.Order.{asked, item_of as the_item, absent_object, gone_item, stray_cell, asks_visible, hidden_item, taken_name, refusal_by, leftmost, asks_directed, wrong_kind, refusal_among};
+ghost use Rattle.console_state.specs.Views.{standing};
+ghost use Rattle.console_state.specs.Clear.{StandsFor, IsClear, AreClear};
 ghost use Rattle.console_state.specs.Obstacles.{refusal_of, IsNameOf};
 
 use crate::session::Session;
 use leda_base::ItemName;
-use script_text::{Arg, Form, Kinds, QueryWord, Sight, Word};
+use script_text::{Arg, Form, Kinds, LookWord, QueryWord, Sight, Word};
 
 /// How an item stands.
 #[derive(Clone, Copy, Debug, PartialEq, Eq)]
@@ -51,6 +54,73 @@ pub(crate) enum Obstacle<'a> {
 impl Session {
     /// What comes first in the way of a command, before the conditions that it has of its own.
     pub(crate) fn first_obstacle<'a>(
+        &self,
+        word: Word,
+        forms: &[Form],
+        args: &'a [Arg],
+    ) -> Option<Obstacle<'a>>
+        requires { AllZip IsOfForm args.now forms.now }
+        ensures first { option_map refusal_of result
+            ≡ refusal_among self.now word forms.now args.now }
+        ensures names { IfSome result (IsNameOf (keeps_any forms.now)) }
+    {
+        if self.is_free(word, forms, args) {
+            None
+        } else {
+            self.search_obstacle(word, forms, args)
+        }
+    }
+
+    /// Whether one look at each argument shows that nothing is in the way of the command, as it does
+    /// for most commands. It doesn't look at names of objects and at items of containers.
+    fn is_free(&self, word: Word, forms: &[Form], args: &[Arg]) -> bool
+        ensures { OnTrue result (refusal_among self.now word forms.now args.now ≡ None) }
+    {
+        self.wrong_kind(word).is_none() && self.are_clear(forms, args)
+    }
+
+    /// Whether one look at each of the arguments shows that no rule refuses any of them.
+    fn are_clear(&self, forms: &[Form], args: &[Arg]) -> bool
+        ensures { OnTrue result (AreClear self.now forms.now args.now) }
+    {
+        match (forms, args) {
+            ([form, forms @ ..], [arg, later @ ..]) => {
+                self.is_clear(*form, arg) && self.are_clear(forms, later)
+            }
+            _ => true,
+        }
+    }
+
+    /// Whether no rule refuses anything of the argument, where one look at it shows that.
+    fn is_clear(&self, form: Form, arg: &Arg) -> bool
+        ensures { OnTrue result (IsClear self.now form arg.now) }
+    {
+        match arg {
+            Arg::Node(number) => self.stands_so(form, ItemName::Node(*number)),
+            Arg::Edge(number) => self.stands_so(form, ItemName::Edge(*number)),
+            Arg::Cell(_) | Arg::Name(_) => false,
+            Arg::Num(_)
+            | Arg::Label(_)
+            | Arg::Labels
+            | Arg::File(_)
+            | Arg::Mode(_)
+            | Arg::Kept(_) => true,
+        }
+    }
+
+    /// Whether the item stands as the form asks.
+    fn stands_so(&self, form: Form, item: ItemName) -> bool
+        ensures { OnTrue result (StandsFor form (standing self.now item)) }
+    {
+        match self.standing(item) {
+            Standing::Visible => true,
+            Standing::Hidden => !asks_visible(form),
+            Standing::Unknown | Standing::Dead => false,
+        }
+    }
+
+    /// What comes first in the way of a command, by one rule after the other.
+    fn search_obstacle<'a>(
         &self,
         word: Word,
         forms: &[Form],
@@ -215,7 +285,7 @@ fn asks_directed(word: Word) -> bool
     ensures { result ≡ asks_directed word }
 {
     match word {
-        Word::Edit(_) => false,
-        Word::Query(QueryWord::Reach) => true,
+        Word::Look(LookWord::InEdges) | Word::Query(QueryWord::Reach) => true,
+        Word::Edit(_) | Word::Look(_) => false,
     }
 }

@@ -1,6 +1,8 @@
 //! A session: its state, and the commands on it.
-ghost use Rattle.std.specs.Prelude.{◌≡◌, ◌⊎◌, ◌-◌, ◌^◌, ◌<◌, Some, None, true, [], ◌∷◌, length, IfOk, OnErr};
+ghost use Rattle.std.specs.Prelude.{◌≡◌, ◌⊎◌, Some, None, true, [], ◌∷◌, IfOk, OnErr};
 ghost use Rattle.leda_edge.specs.Stored.{stored, StaysStored};
+ghost use Rattle.leda_base.specs.declared.ItemName.TheVariants as items;
+ghost use Rattle.graph_state.specs.Refusals.{AreVisible};
 ghost use Rattle.script_text.specs.declared.argument.Arg.TheVariants as args;
 ghost use Rattle.script_text.specs.declared.word.QueryWord.TheVariants as queries;
 ghost use Rattle.script_text.specs.declared.word.Word.TheVariants as words;
@@ -8,53 +10,60 @@ ghost use Rattle.script_text.specs.Table.{forms_of, may_lack_memory, IsWhole};
 ghost use Rattle.reply_text.specs.Text.{IsNamed, IsShort};
 ghost use Rattle.reply_text.specs.Outcome.{LacksMemory, IsQuiet};
 ghost use Rattle.console_state.specs.State.{empty};
-ghost use Rattle.console_state.specs.Graph.{is_among as among};
-ghost use Rattle.console_state.specs.Views.{standing, has_object, holds_cell, is_directed, numbers, node_names, edge_names};
+ghost use Rattle.console_state.specs.Views.{standing, stands, has_object, holds_cell, is_directed};
 ghost use Rattle.console_state.specs.Clear.{AreMet};
 ghost use Rattle.console_state.specs.Obstacles.{refusal_of, HasName};
 ghost use Rattle.console_state.specs.Query.{Answers};
-ghost use Rattle.console_state.specs.Step.{edited, with_kept, Step, IsQuietStep};
+ghost use Rattle.console_state.specs.Refused.{standing_of};
+ghost use Rattle.console_state.specs.Shown.{IsShown};
+ghost use Rattle.console_state.specs.Step.{edited, looked, with_kept, Step, IsQuietStep};
 
-use crate::graph::{is_among, new_edge, new_node};
+use crate::graph::edit;
+use crate::look::look;
+use crate::names::named;
 use crate::order::{Obstacle, Standing};
-use graph_defs::Net;
+use graph_core::{Gone, Graph, Kind};
 use graph_search::reach;
+use hide_restore::{Shown, net};
 use leda_base::{ItemName, NoMemory, Row};
 use leda_edge::Store;
-use reply_text::{Answer, Named, ObjectName, Refusal, Reply};
-use script_text::{Arg, Command, EditWord, Kinds, QueryWord, Word};
+use reply_text::{Answer, ObjectName, Refusal, Reply};
+use script_text::{Arg, Command, EditWord, Kinds, LookWord, QueryWord, Word};
 use std::alloc::Global;
 use std::marker::Model;
 
-/// The state of a session: a directed graph, kept as the net that queries are asked of.
+/// The state of a session.
 #[derive(Drop)]
 pub struct Session {
     alloc: Global,
-    graph: Net,
+    graph: Graph,
+    /// The net of the visible graph, from a query to the next edit.
+    shown: Option<Shown>,
 }
 
 impl Model for Session {
-    ghost use Rattle.graph_defs.specs.Net.{IsValid};
-    ghost use Rattle.console_state.specs.State.{State};
+    ghost use Rattle.std.specs.Prelude.{IfSome};
+    ghost use Rattle.console_state.specs.State.{State, session_code};
+    ghost use Rattle.console_state.specs.Shown.{IsShown};
 
     ghost Value = { State };
 
+    ghost coded = { session_code };
+
     ghost view = { λ a. record { graph = a.graph } };
 
-    ghost invariant = { λ a. IsValid a.graph };
+    ghost invariant = { λ a. IfSome a.shown (IsShown a.graph) };
 }
 
 impl Session {
-    /// A session with an empty graph. It takes no memory.
+    /// A session with an empty directed graph. It takes no memory.
     pub fn new(alloc: Global) -> Session
         ensures { result ≡ empty }
     {
         Session {
             alloc,
-            graph: Net {
-                n: 0,
-                arcs: Row::new(alloc),
-            },
+            graph: Graph::new(alloc, Kind::Directed),
+            shown: None,
         }
     }
 
@@ -84,6 +93,7 @@ impl Session {
         }
         match command.word() {
             Word::Edit(word) => self.edit(word, command.args()),
+            Word::Look(word) => self.look(word, command.args()),
             Word::Query(word) => self.query(word, command.args()),
         }
     }
@@ -98,26 +108,68 @@ impl Session {
     /// An edit that nothing stands in the way of.
     fn edit(&mut self, word: EditWord, args: &[Arg]) -> Reply
         requires whole { IsWhole (record { word = Word.Edit word; args = args.now }) }
-        requires met { AreMet self.old (forms_of (Word.Edit word)) args.now }
+        requires met { AreMet self.old.graph (forms_of (Word.Edit word)) args.now }
         ensures does { LacksMemory (may_lack_memory (Word.Edit word)) self.old result self.new
             ⊎ (edited word args.now self.old ≡ Some (self.new, result)) }
         ensures named { IsNamed result }
         ensures short { IsShort result }
     {
-        match word {
-            EditWord::Node => new_node(&mut self.graph),
-            EditWord::Edge => match args {
-                [Arg::Node(from), Arg::Node(to)] => new_edge(&mut self.graph, *from, *to),
-                // A whole command has the arguments above.
-                _ => unreachable!(),
-            },
+        self.shown = None;
+        edit(self.alloc, &mut self.graph, word, args)
+    }
+
+    /// The reply to a look that nothing stands in the way of.
+    fn look(&self, word: LookWord, args: &[Arg]) -> Reply
+        requires whole { IsWhole (record { word = Word.Look word; args = args.now }) }
+        requires met { AreMet self.now.graph (forms_of (Word.Look word)) args.now }
+        ensures does { LacksMemory (may_lack_memory (Word.Look word)) self.now result self.now
+            ⊎ (looked word args.now self.now ≡ Some (self.now, result)) }
+        ensures named { IsNamed result }
+        ensures quiet { IsQuiet (may_lack_memory (Word.Look word)) self.now result self.now }
+    {
+        match look(self.alloc, &self.graph, word, args) {
+            Ok(line) => Reply::Line(line),
+            Err(NoMemory) => Reply::Refused(Refusal::Memory),
         }
     }
 
     /// The reply to a query that nothing stands in the way of.
-    fn query(&self, word: QueryWord, args: &[Arg]) -> Reply
+    fn query(&mut self, word: QueryWord, args: &[Arg]) -> Reply
         requires whole { IsWhole (record { word = Word.Query word; args = args.now }) }
-        requires met { AreMet self.now (forms_of (Word.Query word)) args.now }
+        requires met { AreMet self.old.graph (forms_of (Word.Query word)) args.now }
+        ensures state { self.new ≡ self.old }
+        ensures replies { LacksMemory (may_lack_memory (Word.Query word)) self.old result self.old
+            ⊎ Answers word args.now self.old result }
+        ensures named { IsNamed result }
+        ensures quiet { IsQuiet (may_lack_memory (Word.Query word)) self.old result self.old }
+    {
+        let Ok(shown) = self.take_shown() else {
+            return Reply::Refused(Refusal::Memory);
+        };
+        let reply = self.answer(&shown, word, args);
+        self.shown = Some(shown);
+        reply
+    }
+
+    /// The net of the visible graph, which the session keeps no more.
+    ///
+    /// # Errors
+    /// `NoMemory`, only where it had to be made.
+    fn take_shown(&mut self) -> Result<Shown, NoMemory>
+        ensures state { self.new ≡ self.old }
+        ensures shown { IfOk result (IsShown self.old.graph) }
+    {
+        match self.shown.take() {
+            Some(shown) => Ok(shown),
+            None => net(self.alloc, &self.graph),
+        }
+    }
+
+    /// The reply to a query, which is asked of the net.
+    fn answer(&self, shown: &Shown, word: QueryWord, args: &[Arg]) -> Reply
+        requires shown { IsShown self.now.graph shown.now }
+        requires whole { IsWhole (record { word = Word.Query word; args = args.now }) }
+        requires met { AreMet self.now.graph (forms_of (Word.Query word)) args.now }
         ensures replies { LacksMemory (may_lack_memory (Word.Query word)) self.now result self.now
             ⊎ Answers word args.now self.now result }
         ensures named { IsNamed result }
@@ -125,41 +177,30 @@ impl Session {
     {
         match word {
             QueryWord::Reach => match args {
-                [Arg::Node(from), Arg::Node(to)] => self.reach(*from, *to),
+                [Arg::Node(from), Arg::Node(to)] => self.reach(shown, *from, *to),
                 _ => unreachable!(),
             },
         }
     }
 
-    fn reach(&self, from: u32, to: u32) -> Reply
-        requires from { among self.now.graph.n from ≡ true }
-        requires to { among self.now.graph.n to ≡ true }
+    fn reach(&self, shown: &Shown, from: u32, to: u32) -> Reply
+        requires shown { IsShown self.now.graph shown.now }
+        requires from { AreVisible self.now.graph (items.Node from ∷ []) }
+        requires to { AreVisible self.now.graph (items.Node to ∷ []) }
         ensures replies { LacksMemory true self.now result self.now
             ⊎ Answers queries.Reach (args.Node from ∷ args.Node to ∷ []) self.now result }
         ensures named { IsNamed result }
     {
-        let Ok(answer) = reach(self.alloc, &self.graph, from - 1, to - 1) else {
+        let (Some(from), Some(to)) = (shown.places.place(from), shown.places.place(to)) else {
+            unreachable!()
+        };
+        let Ok(answer) = reach(self.alloc, &shown.net, from, to) else {
             return Reply::Refused(Refusal::Memory);
         };
-        match self.named(Answer::Reach(answer)) {
+        match named(self.alloc, shown, Answer::Reach(answer)) {
             Ok(named) => Reply::Query(named),
             Err(NoMemory) => Reply::Refused(Refusal::Memory),
         }
-    }
-
-    /// The answer, with the names of the nodes and edges that it numbers.
-    fn named(&self, answer: Answer) -> Result<Named, NoMemory>
-        ensures nodes { IfOk result (λ named. named.nodes ≡ node_names self.now) }
-        ensures edges { IfOk result (λ named. named.edges ≡ edge_names self.now) }
-        ensures answer { IfOk result (λ named. named.answer ≡ answer) }
-    {
-        let nodes = numbers(self.alloc, self.graph.n)?;
-        let edges = numbers(self.alloc, self.graph.arcs.as_slice().len() as u32)?;
-        Ok(Named {
-            nodes,
-            edges,
-            answer,
-        })
     }
 
     /// The refusal that tells what stands in a command's way.
@@ -188,15 +229,16 @@ impl Session {
     pub(crate) fn standing(&self, item: ItemName) -> Standing
         ensures { result ≡ standing self.now item }
     {
-        let (count, number) = match item {
-            ItemName::Node(number) => (self.graph.n, number),
-            ItemName::Edge(number) => (self.graph.arcs.as_slice().len() as u32, number),
-            ItemName::Cell(number) => (0, number),
-        };
-        if is_among(count, number) {
-            Standing::Visible
-        } else {
-            Standing::Unknown
+        match item {
+            ItemName::Node(number) => match self.graph.node_item(number) {
+                Ok(_) => seen_if(!self.graph.is_hidden(item)),
+                Err(why) => gone(why),
+            },
+            ItemName::Edge(number) => match self.graph.edge_item(number) {
+                Ok(edge) => seen_if(self.graph.source(edge).is_ok()),
+                Err(why) => gone(why),
+            },
+            ItemName::Cell(_) => Standing::Unknown,
         }
     }
 
@@ -214,23 +256,30 @@ impl Session {
         false
     }
 
-    /// Whether the graph is directed, as every graph is so far.
     pub(crate) fn is_directed(&self) -> bool
         ensures { result ≡ is_directed self.now }
     {
-        true
+        self.graph.kind() == Kind::Directed
     }
 }
 
-/// The numbers from 1 to a count: those in the names of so many items, of which none was deleted.
-#[tactic(auto, using(crate::proofs::Numbers::numbers_more))]
-fn numbers(alloc: Global, count: u32) -> Result<Row<u32>, NoMemory>
-    requires { count < 2 ^ 32 - 1 }
-    ensures { IfOk result (λ row. row ≡ numbers count) }
+/// How an item stands that is there.
+fn seen_if(shows: bool) -> Standing
+    ensures { result ≡ stands true shows true }
 {
-    let mut row = Row::with_room(alloc, count as usize)?;
-    for place in 0..count {
-        row.push(place + 1)?;
+    if shows {
+        Standing::Visible
+    } else {
+        Standing::Hidden
     }
-    Ok(row)
+}
+
+/// How an item stands that isn't there.
+fn gone(why: Gone) -> Standing
+    ensures { result ≡ standing_of why }
+{
+    match why {
+        Gone::Dead => Standing::Dead,
+        Gone::Unknown => Standing::Unknown,
+    }
 }

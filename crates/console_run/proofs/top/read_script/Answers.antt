@@ -1,6 +1,6 @@
 use Rattle.std.proofs.Common.{rules, arith, ℕ, sym}
 use Rattle.std.proofs.lemmas.List.{take-append-le, length-take}
-use Rattle.console_run.proofs.Pumps.{pumped-start, when_ok, when_err, pumped-more, cut-ends, too-long}
+use Rattle.console_run.proofs.Pumps.{pumped-start, when_ok, when_err, pumped-more, cut-ends, too-long, fault-ends}
 use Rattle.console_run.proofs.top.read_script.Goals as goal
 
 pub loop-taken-init : goal.loop-taken-init
@@ -61,3 +61,13 @@ returns-in-Ok-read-clause-ends g c =
     too-long _ _ _ _ _ _ _ _ _ p _ _ c.in-Ok-read.ensures.bytes.0
     (omega (arith, c.loop-taken.invariant.0))
     (omega (arith, c.in-Ok-read.ensures.bound.1, c.in-Ok-read.field-0-test.1))
+
+pub returns-in_default-clause-ends : goal.returns-in_default-clause-ends
+returns-in_default-clause-ends g c =
+    fault-ends _ _ _ _ _ _ _ _ _ c.loop-taken.invariant.1 _ c.in_default.ensures.bytes
+    c.loop-taken.invariant.0
+
+pub returns-in-Err-clause-ends : goal.returns-in-Err-clause-ends
+returns-in-Err-clause-ends g c =
+    fault-ends _ _ _ _ _ _ _ _ _ c.loop-taken.invariant.1 _ c.in-Err.ensures.bytes
+    c.loop-taken.invariant.0

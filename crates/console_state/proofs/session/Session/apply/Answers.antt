@@ -1,4 +1,4 @@
-use Rattle.script_text.specs.declared.word.Word.TheVariants.{Edit, Query}
+use Rattle.script_text.specs.declared.word.Word.TheVariants.{Edit, Look, Query}
 use Rattle.console_state.proofs.Cleared.{cleared}
 use Rattle.console_state.proofs.session.Session.apply.Goals as goal
 
@@ -13,3 +13,9 @@ query-requires-clause-met g c = cleared c.args.self.now c.word.result c.forms.re
     c.args-2.result.now (Query c.in-Query.word) c.args.command.now c.args-in-Query.result.now
     c.in_default.ensures.first c.forms.ensures c.args-2.ensures c.in-Query.ensures
     c.args-in-Query.ensures
+
+pub look-requires-clause-met : goal.look-requires-clause-met
+look-requires-clause-met g c = cleared c.args.self.now c.word.result c.forms.result.now
+    c.args-2.result.now (Look c.in-Look.word) c.args.command.now c.args-in-Look.result.now
+    c.in_default.ensures.first c.forms.ensures c.args-2.ensures c.in-Look.ensures
+    c.args-in-Look.ensures

@@ -1,6 +1,6 @@
 use Rattle.console_state.specs.Obstacles.{refusal_of}
 use Rattle.console_state.proofs.Cleared.{first_of-six}
-use Rattle.console_state.proofs.session.Session.first_obstacle.Goals as goal
+use Rattle.console_state.proofs.session.Session.search_obstacle.Goals as goal
 
 pub returns-clause-first : goal.returns-clause-first
 returns-clause-first c =

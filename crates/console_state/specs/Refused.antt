@@ -1,0 +1,27 @@
+-- Private: what the graph refuses, as it is replied.
+use Rattle.item_pool.specs.declared.pool.Gone.{Gone}
+use Rattle.item_pool.specs.declared.pool.Gone.TheVariants.{Dead, Unknown}
+use Rattle.leda_base.specs.declared.ItemName.{ItemName}
+use Rattle.graph_state.specs.declared.refusal.EditRefusal.{EditRefusal}
+use Rattle.graph_state.specs.declared.refusal.EditRefusal.TheVariants as edits
+use Rattle.reply_text.specs.declared.refusal.Refusal.{Refusal}
+use Rattle.reply_text.specs.declared.refusal.Refusal.TheVariants as refusals
+use Rattle.console_state.specs.declared.order.Standing.{Standing}
+use Rattle.console_state.specs.declared.order.Standing.TheVariants as stands
+
+abbrev pub gone_refusal : ItemName → Gone → Refusal
+gone_refusal x Dead = refusals.Dead x
+gone_refusal x Unknown = refusals.Unknown x
+
+-- how an item stands that is gone
+abbrev pub standing_of : Gone → Standing
+standing_of Dead = stands.Dead
+standing_of Unknown = stands.Unknown
+
+abbrev pub edit_refusal : EditRefusal → Refusal
+edit_refusal (edits.Gone x why) = gone_refusal x why
+edit_refusal (edits.Hidden x) = refusals.Hidden x
+edit_refusal edits.FullNodes = refusals.FullNodes
+edit_refusal edits.FullEdges = refusals.FullEdges
+edit_refusal edits.Spent = refusals.Spent
+edit_refusal edits.NoMemory = refusals.Memory
