@@ -74,6 +74,11 @@ fn answers_each_command(rt: HostRuntime) -> Result<(), Fail> {
              = e2 e3 e4\n=\n= n2\n",
         ),
         (
+            "node\nnode\nmake_undirected\nedge n1 n2\nedge n1 n1\nout n1\nreach n1 n2\nin n1\n\
+             make_directed\nout n1\nin n1\n",
+            "= n1\n= n2\n=\n= e1\n= e2\n= e1 e2 e2\n! undirected\n! undirected\n=\n= e1 e2\n= e2\n",
+        ),
+        (
             "node\ndel_node n1\nnode\nout n1\n",
             "= n1\n=\n= n2\n! dead n1\n",
         ),

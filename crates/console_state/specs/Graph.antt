@@ -8,7 +8,7 @@ use Rattle.graph_state.specs.declared.kind.Side.{Side}
 use Rattle.graph_state.specs.declared.kind.Side.TheVariants.{Before, Behind}
 use Rattle.graph_state.specs.State.{GraphState, source, target}
 use Rattle.graph_state.specs.Beside.{with_edge_beside}
-use Rattle.graph_state.specs.Edits.{with_node, with_edge, without_edge, without_node, reversed, moved, all_reversed, cleared, with_node_label, with_edge_label, paired, edge_hidden, edge_restored, node_hidden, node_restored, all_restored}
+use Rattle.graph_state.specs.Edits.{with_node, with_edge, without_edge, without_node, reversed, moved, all_reversed, made_undirected, made_directed, cleared, with_node_label, with_edge_label, paired, edge_hidden, edge_restored, node_hidden, node_restored, all_restored}
 use Rattle.script_text.specs.declared.argument.Arg.{Arg}
 use Rattle.script_text.specs.declared.argument.Arg.TheVariants as args
 use Rattle.script_text.specs.declared.word.EditWord.{EditWord}
@@ -89,6 +89,8 @@ graph_edited edits.MoveEdge (args.Edge e ∷ args.Node v ∷ args.Node w ∷ [])
     Some (done (moved e v w g) Empty)
 graph_edited edits.Clear [] g = Some (done (cleared g) Empty)
 graph_edited edits.RevAll [] g = Some (done (all_reversed g) Empty)
+graph_edited edits.MakeUndirected [] g = Some (done (made_undirected g) Empty)
+graph_edited edits.MakeDirected [] g = Some (done (made_directed g) Empty)
 graph_edited edits.SetLabel (args.Node v ∷ args.Label label ∷ []) g =
     Some (done (with_node_label v label g) Empty)
 graph_edited edits.SetLabel (args.Edge e ∷ args.Label label ∷ []) g =

@@ -78,7 +78,11 @@ pub(crate) fn edit(alloc: Global, graph: &mut Graph, word: EditWord, args: &[Arg
             [Arg::Node(v)] => change_node(graph, word, *v),
             _ => unreachable!(),
         },
-        EditWord::RevAll | EditWord::Clear | EditWord::RestoreAll => change_all(graph, word),
+        EditWord::RevAll
+        | EditWord::MakeUndirected
+        | EditWord::MakeDirected
+        | EditWord::Clear
+        | EditWord::RestoreAll => change_all(graph, word),
     }
 }
 
@@ -124,6 +128,8 @@ fn change_all(graph: &mut Graph, word: EditWord) -> Reply
 {
     match word {
         EditWord::RevAll => graph.rev_all(),
+        EditWord::MakeUndirected => graph.make_undirected(),
+        EditWord::MakeDirected => graph.make_directed(),
         EditWord::Clear => graph.clear(),
         EditWord::RestoreAll => restore_all(graph),
         _ => unreachable!(),

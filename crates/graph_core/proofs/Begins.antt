@@ -65,4 +65,5 @@ module _ (directed : Bool) where
         few_members = omega (arith, none_there.1);
         counted = (plen, qlen);
         formed = subst IsFormed none_cleared (formed_cleared none none_made);
+        rise = tt;
       }

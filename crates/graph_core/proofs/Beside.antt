@@ -1,5 +1,5 @@
 -- A new edge next to another one: the cells and the lists say what the state says.
-use Rattle.std.proofs.Common.{◌≡◌, ℕ, ◌+◌, ◌<◌, ◌≤◌, Bool, true, false, ◌&&◌, List, [], ◌∷◌, ◌++◌, Option, Some, None, option_map, refl, sym, ap, subst, ◌∙◌, inl, inr, arith}
+use Rattle.std.proofs.Common.{◌≡◌, ℕ, ◌+◌, ◌<◌, Bool, true, false, ◌&&◌, List, [], ◌∷◌, ◌++◌, Option, Some, None, refl, sym, ap, subst, ◌∙◌, inl, inr, arith}
 use Rattle.std.specs.FinMap as map
 use Rattle.leda_base.specs.declared.name.ItemName.TheVariants as names
 use Rattle.item_pool.specs.Contents.{Contents}
@@ -11,7 +11,7 @@ use Rattle.graph_state.specs.declared.name.ListName.TheVariants.{Edges, Out}
 use Rattle.graph_state.specs.declared.name.Element.{Element}
 use Rattle.graph_state.specs.declared.name.Element.TheVariants.{Node, Edge, End}
 use Rattle.graph_state.specs.State.{GraphState, front, back, source, ends_of, shows_node, shows_ends, shows_edge}
-use Rattle.graph_state.specs.Names.{Has, list_of, home, number, same_element, same_list, back_row}
+use Rattle.graph_state.specs.Names.{Has, number, same_element, same_list, back_row}
 use Rattle.graph_state.specs.Formed.{IsLabel}
 use Rattle.graph_state.specs.Beside.{beside, with_edge_beside}
 use Rattle.graph_state.specs.Refusals.{EdgeRoom, AreVisible}

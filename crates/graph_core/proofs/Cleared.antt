@@ -51,4 +51,5 @@ module _ (s : GraphState) (t : Lists) (top : Option Heads) (p : NodeCells) (q : 
     few_members = k.few_members;
     counted = (k.counted.0 ∙ ap length none, k.counted.1 ∙ ap length (none_has s.edges no_edge));
     formed = formed_cleared s k.formed.made;
+    rise = tt;
   }

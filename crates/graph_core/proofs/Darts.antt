@@ -4,7 +4,6 @@ use Rattle.std.proofs.Common as list
 use Rattle.std.specs.FinMap as map
 use Rattle.item_pool.specs.Contents.{Contents}
 use Rattle.graph_defs.specs.declared.dart.Dart.{Dart}
-use Rattle.graph_state.specs.declared.name.ListName.{ListName}
 use Rattle.graph_state.specs.declared.name.ListName.TheVariants.{Out}
 use Rattle.graph_state.specs.declared.name.Element.{Element}
 use Rattle.graph_state.specs.declared.name.Element.TheVariants.{Node, Edge, End}

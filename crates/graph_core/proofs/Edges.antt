@@ -23,8 +23,9 @@ use Rattle.graph_lists.specs.declared.token.Place.{Place}
 use Rattle.graph_lists.specs.Named.{Lists, Named, head_at, place_at, list_at, shows_at, pushed, placed}
 use Rattle.graph_core.specs.declared.cell.Heads.{Heads}
 use Rattle.graph_core.specs.declared.cell.EdgeCell.{EdgeCell}
-use Rattle.graph_core.specs.Kept.{NodeCells, place_of, end_place, IsEdgeCell, IsEdge, top_heads, IsKept}
+use Rattle.graph_core.specs.Kept.{NodeCells, place_of, end_place, IsEdgeCell, IsEdge, top_heads, Rises, IsKept}
 use Rattle.graph_core.specs.Steps.{with_places, CanEnterEdge, EntersEdge}
+use Rattle.graph_core.proofs.Rises.{rises_push}
 use Rattle.graph_core.proofs.Names.{pushed_list, taken, shows_else}
 use Rattle.graph_core.proofs.Nodes.{node_kept, fresh_edge}
 
@@ -152,6 +153,7 @@ module _ (s : GraphState) (t : Lists) (top : Option Heads) (p : NodeCells) (pool
             few_members = omega (arith, longer, more, few_members);
             counted = (k.counted.0 ∙ sym (ap length a.nodes), longer ∙ ap (λ n. n + 1) k.counted.1 ∙ sym long);
             formed = formed_edge s k.formed z v w label a lab hv hw room.few room.more;
+            rise = subst Rises (sym a.edges) (rises_push (s.made_edges + 1) s.edges (λ y i. let g = k.formed.given_edges y i in omega (arith, g.1)) k.rise);
           }
 
   -- a new edge whose darts go to the rear

@@ -89,6 +89,7 @@ module _ (s : GraphState) (t : Lists) (top : Option Heads) (p : NodeCells) (q : 
         few_members = subst (λ n. n ≤ 2 * map.len p + 6 * map.len q) (sym same.1) k.few_members;
         counted = k.counted;
         formed = k.formed;
+        rise = k.rise;
       }))
 
 -- the ends in the cell of an edge are listed

@@ -21,6 +21,7 @@ use Rattle.graph_core.specs.Removal.{Drops}
 use Rattle.graph_core.proofs.Kept.{edge_cell}
 use Rattle.graph_core.proofs.Nodes.{node_kept}
 use Rattle.graph_core.proofs.Pairs.{kept_unpaired, made_unpaired}
+use Rattle.graph_core.proofs.Rises.{rises_filter}
 
 module _ (s : GraphState) (t : Lists) (top : Option Heads) (p : NodeCells) (q : EdgeCells) (k : IsKept s t top p q) (e : ℕ) (c : EdgeCell) (at : map.get q e ≡ Some c) where
   here : Has e s.edges
@@ -95,6 +96,7 @@ module _ (s : GraphState) (t : Lists) (top : Option Heads) (p : NodeCells) (q : 
           few_members = omega (arith, fewer, members, few_members);
           counted = (k.counted.0, omega (arith, fewer, shorter, counted));
           formed = formed_gone s k.formed e here none;
+          rise = rises_filter (λ i. not (i == e)) s.edges k.rise;
         }
 
 -- an edge and its reversal lose each other, and then the edge goes

@@ -111,6 +111,7 @@ module _ (s : GraphState) (t : Lists) (top : Option Heads) (p : NodeCells) (q : 
           few_members = omega (arith, fewer, members, less, few_members);
           counted = (omega (arith, fewer, shorter, counted), k.counted.1);
           formed = formed_alone s k.formed v alone here;
+          rise = k.rise;
         }
 
     pub kept_vacated : IsKept (without_node v s) u top p' q

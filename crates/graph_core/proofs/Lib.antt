@@ -24,3 +24,7 @@ pub mod TurnedNodes
 pub mod AllShown
 pub mod NodeMarks
 pub mod Cleared
+pub mod Gathering
+pub mod KindKept
+pub mod Rises
+pub mod Opposite

@@ -1,5 +1,5 @@
 -- What the calls on lists make of their names, list by list and element by element.
-use Rattle.std.proofs.Common.{◌≡◌, true, false, cond, not, List, [], ◌∷◌, ◌++◌, Some, None, sym, ap, ◌∙◌, inl, inr}
+use Rattle.std.proofs.Common.{◌≡◌, true, false, cond, not, List, [], ◌∷◌, ◌++◌, Some, None, refl, sym, ap, ◌∙◌, inl, inr}
 use Rattle.std.proofs.lemmas.List.{append-nil}
 use Rattle.graph_state.specs.declared.name.ListName.{ListName}
 use Rattle.graph_state.specs.declared.name.Element.{Element}
@@ -7,7 +7,7 @@ use Rattle.graph_state.specs.Names.{same_element, same_list, without}
 use Rattle.graph_state.proofs.Same.{list_tells, element_tells, same_self}
 use Rattle.graph_state.proofs.Lists.{one}
 use Rattle.graph_lists.specs.declared.token.Place.{Place}
-use Rattle.graph_lists.specs.Named.{Named, place_at, list_at, shows_at, pushed, placed}
+use Rattle.graph_lists.specs.Named.{Lists, Named, place_at, list_at, shows_at, pushed, placed, SameRoom}
 use Rattle.graph_lists.proofs.Numbers.{look_new, look_else}
 
 pub pushed_list : (k : ListName) (x : Element) (n : Named) (l : ListName) → list_at (pushed k x n) l ≡ list_at n l ++ one (same_list k l) x
@@ -32,3 +32,15 @@ place_new x w n = look_new same_element element_tells None x (Some w) n.places
 
 pub place_else : (x : Element) (w : Place) (n : Named) (y : Element) → (y ≡ x → ⊥) → place_at (placed x w n) y ≡ place_at n y
 place_else x w n y ne = look_else same_element element_tells None x y (Some w) n.places ne
+
+-- the room stays, step by step
+pub room_same : (t : Lists) → SameRoom t t
+room_same t = record { heads = refl; members = refl; spare_heads = refl; spare_members = refl }
+
+pub room_on : (t u w : Lists) → SameRoom t u → SameRoom u w → SameRoom t w
+room_on t u w a b = record {
+  heads = b.heads ∙ a.heads;
+  members = b.members ∙ a.members;
+  spare_heads = b.spare_heads ∙ a.spare_heads;
+  spare_members = b.spare_members ∙ a.spare_members;
+}

@@ -24,7 +24,7 @@ use Rattle.graph_lists.specs.Named.{Lists, Named, head_at, place_at, list_at, sh
 use Rattle.graph_core.specs.declared.cell.Heads.{Heads}
 use Rattle.graph_core.specs.declared.cell.NodeCell.{NodeCell}
 use Rattle.graph_core.specs.declared.cell.EdgeCell.{EdgeCell}
-use Rattle.graph_core.specs.Kept.{NodeCells, EdgeCells, heads_of, place_of, IsNodeCell, IsNode, IsEdge, top_heads, IsKept}
+use Rattle.graph_core.specs.Kept.{NodeCells, EdgeCells, heads_of, place_of, IsNodeCell, IsNode, IsEdge, top_heads, Rises, IsKept}
 use Rattle.graph_core.specs.Steps.{Comes, Opens, CanEnterNode, EntersNode}
 use Rattle.graph_core.proofs.Kept.{node_cell, edge_cell}
 use Rattle.graph_core.proofs.Names.{pushed_list, taken, shows_placed, shows_else}
@@ -81,6 +81,7 @@ module _ (s : GraphState) (t : Lists) (top : Option Heads) (p : NodeCells) (q : 
       few_members = subst (λ n. n ≤ 2 * map.len p + 6 * map.len q) (sym c.members.0) k.few_members;
       counted = k.counted;
       formed = k.formed;
+      rise = k.rise;
     }
 
     opens_at : (o : Option Heads) → top ≡ o → Opens t u o after → IsKept s u after p q
@@ -196,6 +197,10 @@ module _ (s : GraphState) (t : Lists) (h : Heads) (pool : Contents NodeCell) (q 
     unfolding with_node
     long_edges = refl
 
+    rise_kept : Rises (with_node label s).edges
+    unfolding with_node
+    rise_kept = k.rise
+
     pub kept_node : IsLabel label → NodeRoom s → IsKept (with_node label s) u (Some h) after.live q
     kept_node lab room =
         let more : map.len after.live ≡ map.len pool.live + 1 = ap map.len live ∙ len_put pool.live (s.made_nodes + 1) cell (fresh_node s t (Some h) pool.live q k) in
@@ -223,4 +228,5 @@ module _ (s : GraphState) (t : Lists) (h : Heads) (pool : Contents NodeCell) (q 
           few_members = omega (arith, more, members, few_members);
           counted = (more ∙ ap (λ n. n + 1) k.counted.0 ∙ sym long_nodes, k.counted.1 ∙ sym long_edges);
           formed = formed_node s k.formed label lab room.few room.more;
+          rise = rise_kept;
         }

@@ -11,7 +11,7 @@ use Rattle.graph_state.specs.Names.{Has}
 use Rattle.graph_state.specs.Formed.{IsFormed}
 use Rattle.graph_state.specs.Edits.{unpaired_at, unpaired, paired}
 use Rattle.graph_state.specs.Reversals.{AreOpposite}
-use Rattle.graph_state.proofs.Has.{some_or_none, some_same, none_some}
+use Rattle.graph_state.proofs.Has.{some_same, none_some}
 use Rattle.graph_state.proofs.Same.{nat_tells}
 use Rattle.graph_state.proofs.Maps.{put_here, put_else, out_here, out_else, len_kept}
 use Rattle.graph_state.proofs.Columns.{with_columns, lists_stay, live_stays, shows_stays, unpaired_from, formed_unpaired, formed_paired}
@@ -19,7 +19,7 @@ use Rattle.graph_lists.specs.Named.{Lists}
 use Rattle.graph_core.specs.declared.cell.Heads.{Heads}
 use Rattle.graph_core.specs.declared.cell.NodeCell.{NodeCell}
 use Rattle.graph_core.specs.declared.cell.EdgeCell.{EdgeCell}
-use Rattle.graph_core.specs.Kept.{NodeCells, EdgeCells, heads_of, place_of, end_place, IsNode, IsEdge, IsEdgeCell, top_heads, IsKept}
+use Rattle.graph_core.specs.Kept.{NodeCells, EdgeCells, heads_of, place_of, end_place, IsNode, IsEdge, top_heads, IsKept}
 use Rattle.graph_core.specs.Pairs.{Reversals, HasReversals, Rewires, reversal_put, PutsReversal, Unpairs, CanUnpair, pair_reversals, Pairs}
 use Rattle.graph_core.proofs.Kept.{edge_cell}
 use Rattle.graph_core.proofs.Found.{has_live}
@@ -126,6 +126,7 @@ module _ (s : GraphState) (t : Lists) (top : Option Heads) (p : NodeCells) (q : 
     few_members = subst (λ n. t.members ≤ 2 * n + 6 * map.len q') (sym nodes_len) (subst (λ n. t.members ≤ 2 * map.len p + 6 * n) (sym edges_len) k.few_members);
     counted = (nodes_len ∙ k.counted.0, edges_len ∙ k.counted.1);
     formed = formed;
+    rise = k.rise;
   }
 
 -- other reversals keep a part of the cells that has nothing to do with them

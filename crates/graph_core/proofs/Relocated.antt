@@ -1,5 +1,5 @@
 -- An edge that goes elsewhere: the cells and the lists say what the state says.
-use Rattle.std.proofs.Common.{◌≡◌, ℕ, ◌+◌, ◌*◌, ◌≤◌, Bool, true, false, not, ◌&&◌, List, [], ◌∷◌, ◌++◌, filter, Option, Some, None, option_map, refl, sym, ap, subst, ◌∙◌, inl, inr}
+use Rattle.std.proofs.Common.{◌≡◌, ℕ, ◌+◌, ◌*◌, ◌≤◌, Bool, true, false, not, ◌&&◌, List, [], ◌∷◌, ◌++◌, filter, Option, Some, None, refl, sym, ap, subst, ◌∙◌, inl, inr}
 use Rattle.std.specs.FinMap as map
 use Rattle.std.specs.FinSet as set
 use Rattle.leda_base.specs.declared.name.ItemName.TheVariants as names
@@ -23,7 +23,7 @@ use Rattle.graph_lists.specs.Named.{Lists, Named, head_at, place_at, list_at, sh
 use Rattle.graph_lists.proofs.Numbers.{look_each}
 use Rattle.graph_core.specs.declared.cell.Heads.{Heads}
 use Rattle.graph_core.specs.declared.cell.EdgeCell.{EdgeCell}
-use Rattle.graph_core.specs.Kept.{NodeCells, EdgeCells, place_of, end_place, IsEdgeCell, IsEdge, top_heads, IsKept}
+use Rattle.graph_core.specs.Kept.{NodeCells, EdgeCells, IsEdgeCell, IsEdge, top_heads, IsKept}
 use Rattle.graph_core.specs.Pairs.{Unpairs}
 use Rattle.graph_core.specs.Moves.{MovesDarts}
 use Rattle.graph_core.proofs.CellPut.{got_here, got_else, as_many, places_stay}
@@ -106,6 +106,7 @@ module _ (s : GraphState) (t : Lists) (top : Option Heads) (p : NodeCells) (q : 
           few_members = subst (λ n. n ≤ 2 * map.len p + 6 * map.len q') (sym d.room.members) (subst (λ n. t.members ≤ 2 * map.len p + 6 * n) (sym cells_len) k.few_members);
           counted = (k.counted.0, cells_len ∙ k.counted.1);
           formed = formed_moved s k.formed e v w here hv hw none;
+          rise = k.rise;
         }
 
 -- an edge and its reversal lose each other, and then the edge goes elsewhere

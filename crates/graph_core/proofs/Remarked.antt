@@ -106,4 +106,5 @@ module _ (s : GraphState) (t : Lists) (top : Option Heads) (p : NodeCells) (q : 
       few_members = subst (λ n. n ≤ 2 * map.len p' + 6 * map.len q') (sym room.members) (subst (λ n. t.members ≤ 2 * n + 6 * map.len q') (sym lens.0) (subst (λ n. t.members ≤ 2 * map.len p + 6 * n) (sym lens.1) k.few_members));
       counted = (lens.0 ∙ k.counted.0, lens.1 ∙ k.counted.1);
       formed = formed_marks s vs es k.formed in_nodes in_edges;
+      rise = k.rise;
     }

@@ -11,7 +11,7 @@ use Rattle.graph_state.specs.State.{GraphState}
 use Rattle.graph_state.specs.Names.{Has, IsOnce, number, shows, IsLive}
 use Rattle.graph_state.specs.Edits.{all_reversed}
 use Rattle.graph_state.specs.Turned.{turned_list, turned_element}
-use Rattle.graph_state.proofs.Has.{some_or_none, has_left, has_right, has_last, has_none, map_join, once_mapped}
+use Rattle.graph_state.proofs.Has.{some_or_none, has_left, has_right, has_last, has_none, once_mapped}
 use Rattle.graph_state.proofs.Same.{nat_tells}
 use Rattle.graph_state.proofs.Maps.{put_here, put_else, len_kept}
 use Rattle.graph_state.proofs.Each.{has_or_not}
@@ -26,7 +26,7 @@ use Rattle.graph_core.specs.Kept.{NodeCells, EdgeCells, heads_of, place_of, end_
 use Rattle.graph_core.specs.Turns.{node_turned, edge_turned, Fills, Changes, ChangesAt, HasCells}
 use Rattle.graph_core.proofs.Kept.{node_cell, edge_cell, ends_are}
 use Rattle.graph_core.specs.Members.{Walks}
-use Rattle.graph_core.proofs.Walks.{IsHere, walk_cut, walk_has, walk_ends}
+use Rattle.graph_core.proofs.Walks.{IsHere, walk_has, not_passed, passed_all}
 use Rattle.graph_core.proofs.Found.{edge_numbers, node_numbers, edge_live, node_live, no_edges}
 
 -- the cells that are changed, one by one
@@ -61,43 +61,27 @@ module _ {X : Type 0} (f : X → X) (p : Contents X) where
     made = was.made;
   }
 
-same_numbers : (ks : List ℕ) → list.map (λ (k : ℕ). k) ks ≡ ks
-same_numbers [] = refl
-same_numbers (k ∷ ks) = ap (λ js. k ∷ js) (same_numbers ks)
-
--- nothing that stands once stands before itself
-once_before : {X : Type 0} (x : X) (xs ys : List X) → IsOnce (xs ++ x ∷ ys) → Has x xs → ⊥
-once_before x [] ys o i = i
-once_before x (z ∷ xs) ys o (inl e) = o.0 (subst (λ z. Has z (xs ++ x ∷ ys)) e (has_right x xs (x ∷ ys) (inl refl)))
-once_before x (z ∷ xs) ys o (inr i) = once_before x xs ys o.1 i
-
 -- a walk along a list that changes each cell as it passes
 module _ {X : Type 0} (f : X → X) (t : Lists) (p : Contents X) (n : ListName) (g : ℕ) (fills : Fills t p n g) (ks : List ℕ) (turn : ℕ) (at : Option ℕ)
     (w : Walks (λ (k : ℕ). k) number t.named false (list_at t.named n) ks turn at) (q : Contents X) (was : ChangesAt f ks p q) where
-  numbers : ks ≡ list.map number w.taken
-  numbers = sym (same_numbers ks) ∙ w.values
-
   module _ (m : ℕ) (h : IsHere t.named false w.rest m) where
-    cut_numbers : list.map number (list_at t.named n) ≡ list.map number w.taken ++ number h.x ∷ list.map number h.behind
-    cut_numbers = ap (list.map number) (walk_cut (λ (k : ℕ). k) number t.named false (list_at t.named n) ks turn at w m h) ∙ map_join number w.taken (h.x ∷ h.behind)
-
-    not_passed : Has (number h.x) ks → ⊥
-    not_passed i = once_before (number h.x) (list.map number w.taken) (list.map number h.behind) (subst IsOnce cut_numbers fills.once) (subst (Has (number h.x)) numbers i)
+    fresh : Has (number h.x) ks → ⊥
+    fresh = not_passed t.named false (list_at t.named n) ks turn at w fills.once m h
 
     pub still_live : HasLive q (number h.x)
     still_live =
         let c = fills.live h.x (walk_has (λ (k : ℕ). k) number t.named false (list_at t.named n) ks turn at w m h) in
-        (c.0, (was.else (number h.x) not_passed ∙ c.1.0, c.1.1, subst (λ n. number h.x ≤ n) (sym was.made) c.1.2))
+        (c.0, (was.else (number h.x) fresh ∙ c.1.0, c.1.1, subst (λ n. number h.x ≤ n) (sym was.made) c.1.2))
 
     pub turns_more : (j : ℕ) (r : Contents X) → j ≡ number h.x → ((c : X) → map.get q.live j ≡ Some c → r.live ≡ map.insert q.live j (f c)) → r.made ≡ q.made → ChangesAt f (ks ++ j ∷ []) p r
     turns_more j r is live made =
         let c = still_live in
         let at' = ap (map.get q.live) is ∙ c.1.0 in
-        changes_more f p ks q r j c.0 was (λ i. not_passed (subst (λ k. Has k ks) is i)) at' (live c.0 at') made
+        changes_more f p ks q r j c.0 was (λ i. fresh (subst (λ k. Has k ks) is i)) at' (live c.0 at') made
 
   pub turns_all : length (list_at t.named n) ≤ turn → Changes f p q
   turns_all le =
-      let all : ks ≡ list.map number (list_at t.named n) = sym (same_numbers ks) ∙ walk_ends (λ (k : ℕ). k) number t.named false (list_at t.named n) ks turn at w le in
+      let all = passed_all t.named false (list_at t.named n) ks turn at w le in
       changes_all f p ks q was (λ k out. fills.all k (λ i. out (subst (Has k) (sym all) i)))
 
 pub changes_nothing : {X : Type 0} (f : X → X) (p : Contents X) → ((k : ℕ) → map.get p.live k ≡ None) → Changes f p p
@@ -225,4 +209,5 @@ module _ (s : GraphState) (t : Lists) (top : Option Heads) (p : NodeCells) (q : 
         (subst (λ n. t.members ≤ 2 * n + 6 * map.len q') (sym plen) (subst (λ n. t.members ≤ 2 * map.len p + 6 * n) (sym qlen) k.few_members));
     counted = (plen ∙ k.counted.0, qlen ∙ k.counted.1);
     formed = formed_reversed s k.formed;
+    rise = k.rise;
   }

@@ -2,10 +2,11 @@
 use Rattle.std.proofs.Common.{◌≡◌, ℕ, ◌+◌, ◌<◌, ◌≤◌, Bool, List, [], ◌∷◌, ◌++◌, map, length, Option, Some, None, refl, sym, ap, subst, ◌∙◌, inl, arith, length-append}
 use Rattle.std.proofs.lemmas.List.{append-nil, append_assoc}
 use Rattle.graph_state.specs.declared.name.Element.{Element}
-use Rattle.graph_state.specs.Names.{Has, first_of}
+use Rattle.graph_state.specs.Names.{Has, IsOnce, number, first_of}
 use Rattle.graph_state.proofs.Has.{has_right, map_join}
 use Rattle.graph_lists.specs.Named.{Named}
 use Rattle.graph_lists.specs.Heads.{IsMemberOf, Finds}
+use Rattle.graph_lists.proofs.Shown.{once_cut}
 use Rattle.graph_core.specs.Members.{Walks}
 
 -- the first of what is left, and the rest
@@ -65,3 +66,20 @@ module _ {I V : Type 0} (value : I → V) (of : Element → V) (v : Named) (b : 
         let n = long in
         let none = no_rest w.rest (omega (arith, le, n)) in
         w.values ∙ ap (map of) (sym (w.is ∙ ap (λ ys. w.taken ++ ys) none ∙ append-nil w.taken))
+
+same_numbers : (ks : List ℕ) → map (λ (k : ℕ). k) ks ≡ ks
+same_numbers [] = refl
+same_numbers (k ∷ ks) = ap (λ js. k ∷ js) (same_numbers ks)
+
+-- the numbers of the elements that were passed
+module _ (v : Named) (b : Bool) (xs : List Element) (ks : List ℕ) (turn : ℕ) (at : Option ℕ) (w : Walks (λ (k : ℕ). k) number v b xs ks turn at) where
+  passed_numbers : ks ≡ map number w.taken
+  passed_numbers = sym (same_numbers ks) ∙ w.values
+
+  pub not_passed : IsOnce (map number xs) → (m : ℕ) (h : IsHere v b w.rest m) → Has (number h.x) ks → ⊥
+  not_passed once m h i =
+      let cut : map number xs ≡ map number w.taken ++ number h.x ∷ map number h.behind = ap (map number) (walk_cut (λ (k : ℕ). k) number v b xs ks turn at w m h) ∙ map_join number w.taken (h.x ∷ h.behind) in
+      (once_cut (number h.x) (map number w.taken) (map number h.behind) (subst IsOnce cut once)).0 (subst (Has (number h.x)) passed_numbers i)
+
+  pub passed_all : length xs ≤ turn → ks ≡ map number xs
+  passed_all le = sym (same_numbers ks) ∙ walk_ends (λ (k : ℕ). k) number v b xs ks turn at w le

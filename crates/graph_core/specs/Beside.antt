@@ -1,7 +1,7 @@
 -- Private: what the steps of a new edge next to another one leave of pools and lists.
 use Rattle.std.specs.Prelude.{◌≡◌, ℕ, ◌+◌, ◌<◌, true, List, Some}
 use Rattle.std.specs.FinMap as map
-use Rattle.item_pool.specs.Contents.{Contents, Holds}
+use Rattle.item_pool.specs.Contents.{Contents}
 use Rattle.item_pool.specs.declared.pool.Item.{Item}
 use Rattle.graph_state.specs.declared.kind.Side.{Side}
 use Rattle.graph_state.specs.declared.name.ListName.{ListName}

@@ -1,5 +1,5 @@
 -- Private: how pools and lists stand for the state of a graph.
-use Rattle.std.specs.Prelude.{◌≡◌, ℕ, ◌+◌, ◌*◌, ◌≤◌, Bool, true, false, cond, [], length, Option, Some, None, option_map}
+use Rattle.std.specs.Prelude.{◌≡◌, ℕ, ◌+◌, ◌*◌, ◌<◌, ◌≤◌, Bool, true, false, cond, List, [], ◌∷◌, length, Option, Some, None, option_map}
 use Rattle.std.specs.Ordering.{nat_cmp}
 use Rattle.std.specs.FinMap as map
 use Rattle.std.specs.FinSet as set
@@ -71,6 +71,11 @@ abbrev pub top_heads : Option Heads → ℕ
 top_heads None = 0
 top_heads (Some h) = 4
 
+-- the numbers rise along the list
+abbrev pub Rises : List ℕ → Type 0
+Rises [] = Unit {0}
+Rises (x ∷ xs) = ((y : ℕ) → Has y xs → x < y) × Rises xs
+
 pub record IsKept (s : GraphState) (t : Lists) (top : Option Heads) (p : NodeCells)
     (q : EdgeCells) : Type 0 where
   pub heads : (l : ListName) → head_at t.named l ≡ heads_of top p l
@@ -85,6 +90,8 @@ pub record IsKept (s : GraphState) (t : Lists) (top : Option Heads) (p : NodeCel
   pub few_members : t.members ≤ 2 * map.len p + 6 * map.len q
   pub counted : (map.len p ≡ length s.nodes) × (map.len q ≡ length s.edges)
   pub formed : IsFormed s
+  -- edges stand in the order in which they were made
+  pub rise : Rises s.edges
 
 pub record IsGraph (a : Inside) : Type 0 where
   pub kept : IsKept a.seen.view a.lists a.heads a.nodes.live a.edges.live

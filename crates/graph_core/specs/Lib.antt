@@ -1,10 +1,13 @@
 pub mod Beside
 pub mod Darts
+pub mod Gathers
 pub mod Kept
+pub mod Least
 pub mod Looks
 pub mod Marks
 pub mod Members
 pub mod Moves
+pub mod Opposite
 pub mod Pairs
 pub mod Removal
 pub mod Restores

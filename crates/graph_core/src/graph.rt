@@ -11,10 +11,12 @@ mod checks;
 mod counts;
 mod darts;
 mod growth;
+mod kinds;
 mod labels;
 mod looks;
 mod marks;
 mod moving;
+mod opposite;
 mod pairs;
 mod removal;
 mod walks;
@@ -86,6 +88,20 @@ impl Graph {
         } else {
             Kind::Undirected
         }
+    }
+
+    /// The type of the labels of nodes. The type `void` has no bytes.
+    pub fn node_type(&self) -> &[u8]
+        ensures { result.now ≡ self.now.node_type }
+    {
+        self.node_type.as_slice()
+    }
+
+    /// The type of the labels of edges. The type `void` has no bytes.
+    pub fn edge_type(&self) -> &[u8]
+        ensures { result.now ≡ self.now.edge_type }
+    {
+        self.edge_type.as_slice()
     }
 
     /// How many nodes were made, which is also the last number.

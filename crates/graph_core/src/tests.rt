@@ -1,5 +1,6 @@
 //! Graphs built and looked at.
 
+mod kinds;
 mod moving;
 mod removal;
 mod whole;

@@ -7,3 +7,4 @@ pub mod Makes
 pub mod Looks
 pub mod Room
 pub mod Turned
+pub mod Leaving

@@ -1,12 +1,12 @@
 -- The rings as lists of elements, and what a step on one ring leaves of them.
-use Rattle.std.proofs.Common.{◌≡◌, ℕ, Bool, true, false, List, [], map, is_some, Some, unwrap_or, sym, ap, subst, ◌∙◌, inl, inr}
+use Rattle.std.proofs.Common.{◌≡◌, ℕ, Bool, true, false, List, [], ◌∷◌, map, is_some, Some, unwrap_or, sym, ap, subst, ◌∙◌, inl, inr}
 use Rattle.std.specs.FinMap as fin
-use Rattle.item_ring.specs.RingLists.{RingLists, IsIn, IsLinkedIn, IsLoose, AreApart}
+use Rattle.item_ring.specs.RingLists.{RingLists, IsIn, IsDistinct, IsLinkedIn, IsLoose, AreApart}
 use Rattle.item_ring.specs.RingLists as ring
 use Rattle.item_ring.proofs.Maps.{get_new, get_else}
 use Rattle.graph_state.specs.declared.name.ListName.{ListName}
 use Rattle.graph_state.specs.declared.name.Element.{Element}
-use Rattle.graph_state.specs.Names.{Has, same_element}
+use Rattle.graph_state.specs.Names.{Has, IsOnce, same_element}
 use Rattle.graph_state.proofs.Has.{some_same, some_or_none, has_map, has_none, has_filter}
 use Rattle.graph_state.proofs.Same.{flag_tells, list_tells, element_tells}
 use Rattle.graph_lists.specs.declared.token.ListHead.{ListHead}
@@ -42,6 +42,10 @@ ring_is v r b l xs h i = ap (λ o. unwrap_or o []) i.is
 
 pub is_head : (v : Named) (r : RingLists) (b : Bool) (l : ListName) (xs : List Element) (h : ℕ) → IsRow v r b l xs h → ring.IsHead r h
 is_head v r b l xs h i = ap is_some i.is
+
+distinct_once : {X : Type 0} (f : X → ℕ) (xs : List X) → IsDistinct (map f xs) → IsOnce xs
+distinct_once f [] d = tt
+distinct_once f (x ∷ xs) d = ((λ i. d.0 (is_in (f x) (map f xs) (has_map f x xs i))), distinct_once f xs d.1)
 
 module _ (v : Named) (r : RingLists) where
   pub linked_in : (b : Bool) (l : ListName) (xs : List Element) (h : ℕ) (x : Element) (w : Place) → IsRow v r b l xs h → Has x xs → place_at v x ≡ Some w → IsLinkedIn r h (pick_member b w)
@@ -98,6 +102,12 @@ module _ (v : Named) (r : RingLists) (k : AreTied v r) where
 
   pub linked_shown : (l : ListName) (h : ListHead) (x : Element) (w : Place) → head_at v l ≡ Some h → place_at v x ≡ Some w → Has x (seen_list v true l) → IsLinkedIn r h.shown w.shown
   linked_shown l h x w at place i = linked_in v r true l (seen_list v true l) h.shown x w (k.rows true l h at) i place
+
+  -- nothing stands twice in a list
+  pub once_list : (l : ListName) (h : ListHead) → head_at v l ≡ Some h → IsOnce (list_at v l)
+  once_list l h there =
+      let i = k.rows false l h there in
+      distinct_once (member v false) (list_at v l) (subst IsDistinct (ring_is v r false l (list_at v l) h.full i) (k.apart.distinct h.full (is_head v r false l (list_at v l) h.full i)))
 
   -- no element stands in two lists
   pub one_list : (l m : ListName) (x : Element) → Has x (list_at v l) → Has x (list_at v m) → l ≡ m

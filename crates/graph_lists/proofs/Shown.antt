@@ -6,20 +6,16 @@ use Rattle.item_ring.specs.RingLists as ring
 use Rattle.graph_state.specs.declared.name.ListName.{ListName}
 use Rattle.graph_state.specs.declared.name.Element.{Element}
 use Rattle.graph_state.specs.Names.{Has, IsOnce, same_element, behind}
-use Rattle.graph_state.proofs.Has.{not_both, has_left, has_right, has_map, has_filter, filter_has, filter_join, filter_same}
+use Rattle.graph_state.proofs.Has.{not_both, has_left, has_right, has_filter, filter_has, filter_join, filter_same}
 use Rattle.graph_state.proofs.Same.{element_tells, same_self, same_not}
 use Rattle.graph_lists.specs.declared.token.ListHead.{ListHead}
 use Rattle.graph_lists.specs.declared.token.Place.{Place}
 use Rattle.graph_lists.specs.Named.{Named, head_at, place_at, list_at, shows_at, seen_list, marked, IsFirstShown, IsNextShown}
 use Rattle.graph_lists.specs.Tied.{member, AreLoose, IsOut, AreTied}
-use Rattle.graph_lists.proofs.Numbers.{is_in, map_behind, look_new, look_else}
-use Rattle.graph_lists.proofs.Rows.{member_is, ring_is, is_head, rows_set, members_same, some_head, linked_shown, one_list, not_loose, told, placed_in}
+use Rattle.graph_lists.proofs.Numbers.{map_behind, look_new, look_else}
+use Rattle.graph_lists.proofs.Rows.{member_is, ring_is, rows_set, once_list, members_same, some_head, linked_shown, one_list, not_loose, told, placed_in}
 use Rattle.graph_lists.proofs.Looses.{loose_linked}
 use Rattle.graph_lists.proofs.Links.{false_true}
-
-distinct_once : {X : Type 0} (f : X → ℕ) (xs : List X) → IsDistinct (map f xs) → IsOnce xs
-distinct_once f [] d = tt
-distinct_once f (x ∷ xs) d = ((λ i. d.0 (is_in (f x) (map f xs) (has_map f x xs i))), distinct_once f xs d.1)
 
 pub once_cut : {X : Type 0} (x : X) (xs ys : List X) → IsOnce (xs ++ x ∷ ys) → (Has x xs → ⊥) × (Has x ys → ⊥)
 once_cut x [] ys o = ((λ i. i), o.0)
@@ -37,7 +33,7 @@ behind_cut y x (z ∷ xs) ys out =
 filter_cut : (p : Element → Bool) (x : Element) (xs ys : List Element) → p x ≡ true → filter p (xs ++ x ∷ ys) ≡ filter p xs ++ x ∷ filter p ys
 filter_cut p x xs ys t = filter_join p xs (x ∷ ys) ∙ ap (λ b. filter p xs ++ cond b (x ∷ filter p ys) (filter p ys)) t
 
-filter_cut_out : (p : Element → Bool) (x : Element) (xs ys : List Element) → p x ≡ false → filter p (xs ++ x ∷ ys) ≡ filter p xs ++ filter p ys
+pub filter_cut_out : (p : Element → Bool) (x : Element) (xs ys : List Element) → p x ≡ false → filter p (xs ++ x ∷ ys) ≡ filter p xs ++ filter p ys
 filter_cut_out p x xs ys f = filter_join p xs (x ∷ ys) ∙ ap (λ b. filter p xs ++ cond b (x ∷ filter p ys) (filter p ys)) f
 
 -- a list cut twice
@@ -46,11 +42,6 @@ append_assoc_cut [] y ys zs = refl
 append_assoc_cut (x ∷ xs) y ys zs = ap (λ us. x ∷ us) (append_assoc_cut xs y ys zs)
 
 module _ (v : Named) (r : RingLists) (k : AreTied v r) (x : Element) (w : Place) (place : place_at v x ≡ Some w) (hidden : shows_at v x ≡ false) (l : ListName) where
-  pub once_list : (h : ListHead) → head_at v l ≡ Some h → IsOnce (list_at v l)
-  once_list h there =
-      let i = k.rows false l h there in
-      distinct_once (member v false) (list_at v l) (subst IsDistinct (ring_is v r false l (list_at v l) h.full i) (k.apart.distinct h.full (is_head v r false l (list_at v l) h.full i)))
-
   shows_else : (y : Element) → (y ≡ x → ⊥) → shows_at (marked true x v) y ≡ shows_at v y
   shows_else y ne = look_else same_element element_tells false x y true v.shown ne
 
@@ -96,7 +87,7 @@ module _ (v : Named) (r : RingLists) (k : AreTied v r) (x : Element) (w : Place)
       → t.tags ≡ r.tags → t.loose ≡ ring.without w.shown r.loose → AreApart t → AreTied (marked true x v) t
   tied_first t h there f rings tags loose apart =
       let u = marked true x v in
-      let out = once_cut x f.before f.behind (subst IsOnce f.is (once_list h there)) in
+      let out = once_cut x f.before f.behind (subst IsOnce f.is (once_list v r k l h there)) in
       let old : seen_list v true l ≡ filter (shows_at v) f.behind = ap (filter (shows_at v)) f.is ∙ filter_cut_out (shows_at v) x f.before f.behind hidden ∙ ap (λ ys. ys ++ filter (shows_at v) f.behind) f.none in
       let new : seen_list u true l ≡ x ∷ filter (shows_at v) f.behind =
       ap (filter (shows_at u)) f.is ∙ filter_cut (shows_at u) x f.before f.behind shows_x
@@ -121,7 +112,7 @@ module _ (v : Named) (r : RingLists) (k : AreTied v r) (x : Element) (w : Place)
     tied_next t rings tags loose apart =
         let u = marked true x v in
         let h = some_head v r k l y has_y in
-        let once = subst IsOnce f.is (once_list h.0 h.1) in
+        let once = subst IsOnce f.is (once_list v r k l h.0 h.1) in
         let out_y = once_cut y f.before (f.between ++ x ∷ f.behind) once in
         let out_x = once_cut x (f.before ++ y ∷ f.between) f.behind (subst IsOnce (append_assoc_cut f.before y f.between (x ∷ f.behind)) once) in
         let fb = filter (shows_at v) f.before in let fz = filter (shows_at v) f.behind in

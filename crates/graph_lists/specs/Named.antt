@@ -216,3 +216,9 @@ pub record IsNextShown (v : Named) (l : ListName) (y x : Element) : Type 0 where
   pub is : list_at v l ≡ before ++ y ∷ (between ++ x ∷ behind)
   pub shows : shows_at v y ≡ true
   pub none : filter (shows_at v) between ≡ []
+
+-- the element leaves the one list that it stands in
+abbrev pub Leaves : Named → Named → Element → Type 0
+Leaves v u x = (l : ListName) (before behind : List Element) → list_at v l ≡ before ++ x ∷ behind
+    → (list_at u l ≡ before ++ behind)
+    × ((k : ListName) → (k ≡ l → ⊥) → list_at u k ≡ list_at v k)

@@ -5,7 +5,7 @@
 //! element is given two members of one `Rings`, and a list two heads, which the caller keeps and
 //! hands back with the name. Hiding an element takes its second member out of the ring of what
 //! shows, and leaves the list as it is. Contracts see the lists by names: nothing in them speaks of
-//! rings.
+//! rings. So where every edge of a graph comes to go the other way, only names change.
 //!
 //! - `token`: the two heads of a list, and the two members of an element.
 //! - `seen`: what contracts see of the lists.

@@ -6,7 +6,7 @@ ghost use Rattle.item_ring.specs.RingLists.{IsHead, IsLoose};
 ghost use Rattle.graph_state.specs.declared.name.ListName.{ListName};
 ghost use Rattle.graph_state.specs.declared.name.Element.{Element};
 ghost use Rattle.graph_state.specs.Names.{Has, number, first_of, last_of};
-ghost use Rattle.graph_lists.specs.Named.{head_at, place_at, list_at, shows_at, seen_list, nothing_named, listed, unlisted, placed, unplaced, pushed, put_beside, unlinked, marked, SameRoom, IsFirstShown, IsNextShown};
+ghost use Rattle.graph_lists.specs.Named.{head_at, place_at, list_at, shows_at, seen_list, nothing_named, listed, unlisted, placed, unplaced, pushed, put_beside, unlinked, marked, SameRoom, Leaves, IsFirstShown, IsNextShown};
 ghost use Rattle.graph_lists.specs.Heads.{IsHeadOf, IsMemberOf, IsLinked, Finds};
 ghost use Rattle.graph_lists.specs.Turned.{turned};
 ghost use Rattle.graph_lists.specs.Steps.{AddsHead, AddsMember, PushesIf, PutsBeside, UnlinksIf};
@@ -219,6 +219,7 @@ impl Lists {
         requires place { place_at self.old.named x ≡ Some place.now }
         requires there { (l : ListName) × Has x (list_at self.old.named l) }
         ensures named { self.new.named ≡ unlinked x self.old.named }
+        ensures leaves { Leaves self.old.named self.new.named x }
         ensures room { SameRoom self.old self.new }
     {
         self.rings.unlink(place.full);

@@ -7,9 +7,11 @@
 #![tactic(auto)]
 
 mod face;
+mod map;
 mod reversal;
 
 pub use face::{FaceRefusal, face_succ};
+pub use map::make_map;
 pub use reversal::{RevRefusal, set_reversal};
 
 #[cfg(test)]

@@ -1,6 +1,6 @@
 //! Reversals, and the edges round a face.
 
-use crate::{FaceRefusal, RevRefusal, face_succ, set_reversal};
+use crate::{FaceRefusal, RevRefusal, face_succ, make_map, set_reversal};
 use graph_core::{EdgeItem, Gone, Graph, Item, ItemName, Kind, LookRefusal};
 use leda_base::Row;
 use std::alloc::Global;
@@ -70,4 +70,20 @@ fn see_refusals(rt: &impl Abort, alloc: Global, g: &mut Graph) -> Result<(), Fai
 fn an_unknown_edge_is_refused(rt: HostRuntime) -> Result<(), Fail> {
     let mut g = Graph::new(rt.alloc(), Kind::Undirected);
     see_refusals(&rt, rt.alloc(), &mut g)
+}
+
+/// Of one edge and three edges back one pair is made.
+fn see_map(rt: &impl Abort, alloc: Global, g: &mut Graph) -> Result<(), Fail> {
+    let [first, second, third, _] = build(alloc, g).ok_or("no graph")?;
+    assert_eq!(rt; make_map(g), 2);
+    assert_eq!(rt; g.partner(first), Ok(Some(second)));
+    assert_eq!(rt; g.partner(third), Ok(None));
+    assert_eq!(rt; make_map(g), 2);
+    Ok(())
+}
+
+#[test]
+fn an_edge_is_paired_with_the_first_one_back(rt: HostRuntime) -> Result<(), Fail> {
+    let mut g = Graph::new(rt.alloc(), Kind::Undirected);
+    see_map(&rt, rt.alloc(), &mut g)
 }

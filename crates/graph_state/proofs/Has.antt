@@ -48,6 +48,10 @@ module _ {X : Type 0} where
   none_has [] out = refl
   none_has (x ∷ xs) out = absurd (out x (inl refl))
 
+  pub once_join : (xs ys : List X) → IsOnce xs → IsOnce ys → ((x : X) → Has x xs → Has x ys → ⊥) → IsOnce (xs ++ ys)
+  once_join [] ys o p apart = p
+  once_join (x ∷ xs) ys o p apart = ((λ i. elim (has_either x xs ys i) [ inl a ↦ o.0 a | inr b ↦ apart x (inl refl) b ]), once_join xs ys o.1 p (λ z i j. apart z (inr i) j))
+
 module _ {X Y : Type 0} (f : X → Y) where
   pub has_map : (x : X) (xs : List X) → Has x xs → Has (f x) (map f xs)
   has_map x [] i = i

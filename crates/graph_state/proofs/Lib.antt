@@ -14,3 +14,4 @@ pub mod Moved
 pub mod Order
 pub mod NodeRemoved
 pub mod Cleared
+pub mod OtherKind

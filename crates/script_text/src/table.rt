@@ -52,7 +52,7 @@ macro_rules! rows {
 pub(crate) use rows;
 
 /// The table. All that is said of a command before it runs is said here.
-pub(crate) const TABLE: [Entry; 33] = rows! {
+pub(crate) const TABLE: [Entry; 35] = rows! {
     "node"             Edit(EditWord::Node)           [LABEL]              Taken;
     "edge"             Edit(EditWord::Edge)           [NODE, NODE, LABEL]  Taken;
     "edge_before"      Edit(EditWord::EdgeBefore)     [EDGE, NODE, LABEL]  Taken;
@@ -63,6 +63,8 @@ pub(crate) const TABLE: [Entry; 33] = rows! {
     "move_edge"        Edit(EditWord::MoveEdge)       [EDGE, NODE, NODE]   NotTaken;
     "clear"            Edit(EditWord::Clear)          []                   NotTaken;
     "rev_all"          Edit(EditWord::RevAll)         []                   NotTaken;
+    "make_undirected"  Edit(EditWord::MakeUndirected)  []                  NotTaken;
+    "make_directed"    Edit(EditWord::MakeDirected)   []                   NotTaken;
     "label"            Edit(EditWord::SetLabel)       [ELEMENT, NEW_LABEL] Taken;
     "set_reversal"     Edit(EditWord::SetReversal)    [EDGE, EDGE]         NotTaken;
     "hide_edge"        Edit(EditWord::HideEdge)       [LIVE_EDGE]          NotTaken;

@@ -12,6 +12,8 @@ pub enum EditWord {
     RevEdge,
     MoveEdge,
     RevAll,
+    MakeUndirected,
+    MakeDirected,
     Clear,
     SetLabel,
     SetReversal,

@@ -27,7 +27,11 @@ pub(super) fn edge_at(lists: &Lists, edges: &Pool<EdgeCell>, m: Member) -> EdgeI
 }
 
 /// The item of the edge that the member is of, where there is one.
-fn may_edge_at(lists: &Lists, edges: &Pool<EdgeCell>, m: Option<Member>) -> Option<EdgeItem>
+pub(super) fn may_edge_at(
+    lists: &Lists,
+    edges: &Pool<EdgeCell>,
+    m: Option<Member>,
+) -> Option<EdgeItem>
     requires { MayHaveEdge lists.now edges.now m }
     ensures { (b : Bool) (o : Option Element) → Finds lists.now.named b m o
         → option_map (λ (e : EdgeItem). e.0.serial) result ≡ option_map number o }

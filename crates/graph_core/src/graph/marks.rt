@@ -72,7 +72,7 @@ fn set_mark(edges: &mut Pool<EdgeCell>, e: EdgeItem, hidden: bool)
 }
 
 /// The element of the list that the member is of, and its place.
-fn element_at<'a>(
+pub(super) fn element_at<'a>(
     lists: &Lists,
     nodes: &'a Pool<NodeCell>,
     edges: &'a Pool<EdgeCell>,

@@ -55,7 +55,7 @@ fn pair_cells(edges: &mut Pool<EdgeCell>, e: u32, f: u32)
 }
 
 /// The item of an edge that is there.
-fn item_of(edges: &Pool<EdgeCell>, e: u32) -> EdgeItem
+pub(super) fn item_of(edges: &Pool<EdgeCell>, e: u32) -> EdgeItem
     requires { HasLive edges.now e }
     ensures { result.0.serial ≡ e }
 {

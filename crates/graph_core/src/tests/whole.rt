@@ -83,6 +83,8 @@ fn see_all(rt: &impl Abort, alloc: Global, g: &mut Graph) -> Result<(), Fail> {
     let edges = g.live_edges(alloc).ok().ok_or("no edges")?;
     let numbers = edge_numbers(alloc, edges.as_slice()).ok_or("no numbers")?;
     assert_eq!(rt; numbers.as_slice(), [1, 2, 3, 4].as_slice());
+    assert_eq!(rt; g.node_type().len(), 0);
+    assert_eq!(rt; g.edge_type().len(), 0);
     Ok(())
 }
 

@@ -1,6 +1,5 @@
 -- The reversal in the cell is there.
 use Rattle.std.proofs.Common.{◌∙◌}
-use Rattle.std.specs.FinMap as map
 use Rattle.graph_core.proofs.Kept.{edge_cell}
 use Rattle.graph_core.proofs.Pairs.{reversal_live}
 use Rattle.graph_core.proofs.graph.Graph.live_partner.Goals as goal

@@ -1,5 +1,5 @@
 -- The cell of the edge gets the label.
-use Rattle.std.proofs.Common.{[], ◌∷◌, refl, sym, ap, subst, ◌∙◌}
+use Rattle.std.proofs.Common.{[], ◌∷◌, sym, ap, subst, ◌∙◌}
 use Rattle.leda_base.specs.declared.name.ItemName.TheVariants as names
 use Rattle.graph_state.specs.State.{GraphState}
 use Rattle.graph_state.specs.Edits.{with_edge_label}

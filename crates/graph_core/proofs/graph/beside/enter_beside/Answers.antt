@@ -3,7 +3,7 @@ use Rattle.std.proofs.Common.{◌+◌, ◌<◌, sym, ap, subst, ◌∙◌}
 use Rattle.graph_state.specs.declared.name.ListName.TheVariants.{Edges}
 use Rattle.graph_state.specs.declared.name.Element.TheVariants.{Edge, End}
 use Rattle.graph_state.specs.State.{front, back}
-use Rattle.graph_lists.specs.Named.{Named, placed, pushed}
+use Rattle.graph_lists.specs.Named.{placed, pushed}
 use Rattle.graph_core.proofs.Beside.{can_put_front}
 use Rattle.graph_core.proofs.graph.beside.enter_beside.Goals as goal
 

@@ -2,10 +2,11 @@
 use Rattle.std.proofs.Common.{◌≡◌, Some, sym, subst}
 use Rattle.graph_state.specs.declared.name.ListName.{ListName}
 use Rattle.graph_state.specs.Names.{Has}
-use Rattle.graph_lists.specs.Named.{Lists, place_at, list_at}
+use Rattle.graph_lists.specs.Named.{Lists, Leaves, place_at, list_at}
 use Rattle.graph_lists.specs.Tied.{AreTied}
 use Rattle.graph_lists.proofs.Rows.{some_head, linked_full}
 use Rattle.graph_lists.proofs.Links.{out_tagged, tied_unlinked}
+use Rattle.graph_lists.proofs.Leaving.{leaves}
 use Rattle.graph_lists.proofs.Room.{room_set, room_on, room_out, room_is}
 use Rattle.graph_lists.proofs.lists.Lists.unlink.Goals as goal
 
@@ -35,3 +36,9 @@ returns-clause-room c =
     let linked = linked_full a.seen.view a.rings c.self.invariant has.0 h.0 c.args.x c.args.place.now h.1 (subst (λ (o : Lists). place_at o.named c.args.x ≡ Some c.args.place.now) (sym c.self.view_is) c.requires.place) has.1 in
     room_is c.args.self.now a (record { rings = c.unlink_shown.new.rings; seen = c.show.new.seen }) c.self.view_is
     (room_on a.rings c.unlink.new.self c.unlink_shown.new.rings (room_set a.rings c.unlink.new.self h.0.full _ linked.head (c.unlink.ensures.rings h.0.full linked) c.unlink.ensures.tags c.unlink.ensures.spare) (room_out c.unlink.new.self c.unlink_shown.new.rings c.args.place.now.shown c.unlink_shown.ensures))
+
+pub returns-clause-leaves : goal.returns-clause-leaves
+returns-clause-leaves c =
+    let a = c.self.inside in
+    subst (λ (o : Lists). Leaves o.named c.show.new.seen.view c.args.x) c.self.view_is
+    (subst (λ u. Leaves a.seen.view u c.args.x) (sym c.show.ensures) (leaves a.seen.view a.rings c.self.invariant c.args.x))
