@@ -79,6 +79,18 @@ fn answers_each_command(rt: HostRuntime) -> Result<(), Fail> {
             "= n1\n= n2\n=\n= e1\n= e2\n= e1 e2 e2\n! undirected\n! undirected\n=\n= e1 e2\n= e2\n",
         ),
         (
+            "node\nnode\nedge n1 n1\nedge n1 n2\nedge n1 n2\nhide_edge e1\nhide_node n2\nout n1\n\
+             restore_edge e1\nout n1\nrestore_all\nout n1\n",
+            "= n1\n= n2\n= e1\n= e2\n= e3\n=\n=\n=\n=\n= e1\n=\n= e1 e2 e3\n",
+        ),
+        (
+            "node\nnode\nedge n1 n2\nedge n2 n1\nset_reversal e1 e2\nface_succ e1\nedge n1 n2\n\
+             face_succ e3\nset_reversal e1 e3\nrev_edge e1\nreversal e2\nout n2\nmake_map\n\
+             make_undirected\nface_succ e2\n",
+            "= n1\n= n2\n= e1\n= e2\n=\n= e2\n= e3\n! reversal e3\n! opposite\n=\n= nil\n= e2 e1\n\
+             = 1\n=\n! undirected\n",
+        ),
+        (
             "node\ndel_node n1\nnode\nout n1\n",
             "= n1\n=\n= n2\n! dead n1\n",
         ),

@@ -1,9 +1,9 @@
 -- What the arguments of a command meet where nothing is refused of them.
-use Rattle.std.proofs.Common.{◌≡◌, ◌≤◌, ◌-◌, Bool, true, false, List, [], ◌∷◌, length, take, drop, get_or, refl, ap, ◌∙◌, sym, subst, cond, arith}
+use Rattle.std.proofs.Common.{◌≡◌, ◌≤◌, ◌-◌, Bool, true, false, ◌&&◌, List, [], ◌∷◌, length, take, drop, get_or, refl, ap, ◌∙◌, sym, subst, cond, arith}
 use Rattle.std.proofs.lemmas.List.{take_all}
 use Rattle.std.specs.Prelude.{Option, None, Some, is_some, not, option_map}
 use Rattle.std.specs.Option.{option_or}
-use Rattle.std.specs.Bool.{MatchBool}
+use Rattle.std.specs.Bool.{MatchBool, OnTrue}
 use Rattle.leda_base.specs.declared.ItemName.{ItemName}
 use Rattle.leda_base.specs.declared.ItemName.TheVariants as items
 use Rattle.script_text.specs.declared.argument.Arg.{Arg}
@@ -12,15 +12,16 @@ use Rattle.script_text.specs.declared.form.Form.{Form}
 use Rattle.script_text.specs.declared.word.Word.{Word}
 use Rattle.script_text.specs.Said.{Said}
 use Rattle.script_text.specs.Table.{forms_of}
+use Rattle.reply_text.specs.declared.refusal.Refusal.TheVariants as refusals
 use Rattle.console_state.specs.declared.order.Rule.{Rule}
 use Rattle.console_state.specs.declared.order.Rule.TheVariants as rules
 use Rattle.console_state.specs.declared.order.Standing.{Standing}
 use Rattle.console_state.specs.declared.order.Standing.TheVariants.{Unknown, Dead, Hidden, Visible}
 use Rattle.console_state.specs.State.{State}
 use Rattle.console_state.specs.Views.{standing}
-use Rattle.console_state.specs.Order.{gone, hidden, asks_visible, refusal_by, leftmost, wrong_kind, first_of, refusal_among}
+use Rattle.console_state.specs.Order.{gone, hidden, asks_visible, asks_directed, refusal_by, leftmost, wrong_kind, first_of, refusal_among}
 use Rattle.console_state.proofs.Visible.{stands_in}
-use Rattle.console_state.specs.Clear.{IsLive, IsMet, AreMet, IsClear, AreClear}
+use Rattle.console_state.specs.Clear.{IsLive, IsMet, AreMet, IsOfKind, IsClear, AreClear}
 
 -- the first of six, each of which is changed
 pub first_of-six : {A B : Type 0} (f : A → B) (a b c d e g : Option A)
@@ -94,6 +95,31 @@ cleared s read forms args word said again h f a w b =
     let met = all-met s forms args two.0 four.0 in
     subst (λ all. AreMet s.graph (forms_of word) all) (a ∙ sym b)
     (subst (λ forms. AreMet s.graph forms args) (f ∙ ap forms_of (sym w)) met)
+
+-- where the kind isn't wrong, it is the one asked for
+kind-is : (asked directed : Bool) → cond (asked && not directed) (Some refusals.Undirected) None ≡ None
+    → OnTrue asked (directed ≡ true)
+kind-is true true h = refl
+kind-is true false h = cc
+kind-is false directed h = tt
+
+fifth-none : {A : Type 0} (a b c d e g : Option A)
+    → first_of (a ∷ b ∷ c ∷ d ∷ e ∷ g ∷ []) ≡ None → e ≡ None
+fifth-none None None None None e g h = (or-none e (option_or g None) h).0
+fifth-none None None None (Some x) e g h = cc
+fifth-none None None (Some x) d e g h = cc
+fifth-none None (Some x) c d e g h = cc
+fifth-none (Some x) b c d e g h = cc
+
+-- nothing stands in the way of the command
+pub kind-met : (s : State) (read : Word) (forms : List Form) (args : List Arg) (word : Word)
+    (said : Said) → None ≡ refusal_among s read forms args → read ≡ said.word → word ≡ said.word
+    → IsOfKind s.graph word
+kind-met s read forms args word said h r w =
+    let first = λ (rule : Rule). leftmost s rule forms args in
+    let kind = fifth-none (first rules.Absent) (first rules.Gone) (first rules.Stray)
+    (first rules.Hidden) (wrong_kind s read) (first rules.Taken) (sym h) in
+    subst (IsOfKind s.graph) (r ∙ sym w) (kind-is (asks_directed read) s.graph.directed kind)
 
 -- arguments of which no rule refuses anything
 pub all-clear : (s : State) (rule : Rule) (forms : List Form) (args : List Arg)

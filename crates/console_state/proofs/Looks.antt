@@ -1,20 +1,23 @@
 -- What looks at neighbours find, as replies.
 use Rattle.std.proofs.Common.{◌≡◌, ℕ, true, false, List, [], ◌∷◌, ◌++◌, if◌then◌else◌, map, option_map, refl, sym, ap, subst, ◌∙◌, ◌⊎◌, inl, inr}
-use Rattle.std.specs.Prelude.{Option, Some, None}
+use Rattle.std.specs.Prelude.{Bool, Option, Some, None, cond, unwrap_or}
+use Rattle.std.specs.FinMap as fin
 use Rattle.leda_base.specs.declared.ItemName.TheVariants as items
 use Rattle.graph_defs.specs.declared.dart.Dart.{Dart}
 use Rattle.graph_state.specs.declared.item.NodeItem.{NodeItem}
 use Rattle.graph_state.specs.declared.item.EdgeItem.{EdgeItem}
 use Rattle.graph_state.specs.declared.name.Element.{Element}
 use Rattle.graph_state.specs.declared.name.Element.TheVariants.{Node, Edge, End}
-use Rattle.graph_state.specs.State.{GraphState, front, source, out_list, visible_out, shows_dart}
+use Rattle.graph_state.specs.State.{GraphState, front, source, out_list, visible_out, shows_dart, shows_edge}
+use Rattle.graph_state.specs.Reversals.{if_shown, visible_reversal}
 use Rattle.graph_state.specs.Names.{Has, same_dart, first_of, last_of}
 use Rattle.graph_state.specs.Formed.{IsFormed}
 use Rattle.graph_state.specs.Refusals.{AreVisible}
 use Rattle.graph_state.proofs.Same.{dart_tells}
 use Rattle.graph_state.proofs.Has.{has_mapped, filter_has}
 use Rattle.graph_core.specs.Looks.{IsEdgeOf, StandsBetween, IsBehind, IsBefore, IsCyclicBehind, IsCyclicBefore}
-use Rattle.console_state.specs.Look.{edge_line, edge_name, number_line, before, behind, darts_before, darts_behind}
+use Rattle.graph_rev.specs.Reversals.{IsFaceSucc}
+use Rattle.console_state.specs.Look.{edge_line, edge_name, number_line, before, behind, darts_before, darts_behind, cyclic_pred, face_succ, tells}
 
 -- a list is what stands before a dart in it, the dart, and what stands behind it
 split_at : (d : Dart) (ds : List Dart) → Has d ds → ds ≡ before d ds ++ d ∷ behind d ds
@@ -75,5 +78,25 @@ module _ (g : GraphState) (e k : ℕ) (formed : IsFormed g) (see : AreVisible g 
   pub cyclic_succ_line : (next : EdgeItem) → IsCyclicBehind g k next → edge_line (first_of (darts_behind e g ++ darts_before e g ++ front e ∷ [])) ≡ number_line (option_map (λ (e : EdgeItem). e.0.serial) (Some next))
   cyclic_succ_line next is = line_of (Some next) _ (subst (λ k. IsCyclicBehind g k next) same is (darts_before e g) (darts_behind e g) (between g e formed see))
 
-  pub cyclic_pred_line : (next : EdgeItem) → IsCyclicBefore g k next → edge_line (last_of (front e ∷ darts_behind e g ++ darts_before e g)) ≡ number_line (option_map (λ (e : EdgeItem). e.0.serial) (Some next))
+  pub cyclic_pred_line : (next : EdgeItem) → IsCyclicBefore g k next → cyclic_pred e g ≡ number_line (option_map (λ (e : EdgeItem). e.0.serial) (Some next))
   cyclic_pred_line next is = line_of (Some next) _ (subst (λ k. IsCyclicBefore g k next) same is (darts_before e g) (darts_behind e g) (between g e formed see))
+
+-- the reversal of a visible edge, where it shows, is a visible edge
+shown_one : (g : GraphState) (e f : ℕ) (o : Option ℕ) → IsFormed g → fin.get g.reversals e ≡ o → if_shown g o ≡ Some f → AreVisible g (items.Edge f ∷ [])
+shown_one g e f None formed at is = cc
+shown_one g e f (Some h) formed at is = by (shows_edge g h) refl is
+  where
+    by : (b : Bool) → shows_edge g h ≡ b → cond b (Some h) None ≡ Some f → AreVisible g (items.Edge f ∷ [])
+    by false shows is = cc
+    by true shows is =
+        subst (λ k. AreVisible g (items.Edge k ∷ [])) (ap (λ o. unwrap_or o 0) is)
+        ((formed.reversals h e (formed.reversals e h at).both).listed, shows, tt)
+
+-- the edge behind another one round its face, as a line
+pub face_line : (g : GraphState) (e k : ℕ) (next : EdgeItem) → IsFormed g → k ≡ e → IsFaceSucc g k next → Some (face_succ (visible_reversal g e) e g) ≡ tells (number_line (option_map (λ (e : EdgeItem). e.0.serial) (Some next)))
+face_line g e k next formed same is =
+    let f = is.0 in
+    let at : visible_reversal g e ≡ Some f = subst (λ k. visible_reversal g k ≡ Some f) same is.1.0 in
+    let see = shown_one g e f (fin.get g.reversals e) formed refl at in
+    subst (λ o. Some (face_succ o e g) ≡ tells (number_line (option_map (λ (e : EdgeItem). e.0.serial) (Some next)))) (sym at)
+    (ap tells (cyclic_pred_line g f f formed see refl next is.1.1))

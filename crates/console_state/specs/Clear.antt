@@ -1,6 +1,6 @@
 -- Private: what the arguments of a command meet where nothing stands in its way.
-use Rattle.std.specs.Prelude.{◌≡◌, List, [], ◌∷◌, None, ⊤}
-use Rattle.std.specs.Bool.{MatchBool}
+use Rattle.std.specs.Prelude.{◌≡◌, true, List, [], ◌∷◌, None, ⊤}
+use Rattle.std.specs.Bool.{MatchBool, OnTrue}
 use Rattle.leda_base.specs.declared.ItemName.{ItemName}
 use Rattle.leda_base.specs.declared.ItemName.TheVariants as items
 use Rattle.graph_state.specs.State.{GraphState}
@@ -8,11 +8,12 @@ use Rattle.graph_state.specs.Refusals.{IsThere, AreVisible}
 use Rattle.script_text.specs.declared.argument.Arg.{Arg}
 use Rattle.script_text.specs.declared.argument.Arg.TheVariants as args
 use Rattle.script_text.specs.declared.form.Form.{Form}
+use Rattle.script_text.specs.declared.word.Word.{Word}
 use Rattle.console_state.specs.declared.order.Rule.{Rule}
 use Rattle.console_state.specs.declared.order.Standing.{Standing}
 use Rattle.console_state.specs.declared.order.Standing.TheVariants.{Unknown, Dead, Hidden, Visible}
 use Rattle.console_state.specs.State.{State}
-use Rattle.console_state.specs.Order.{asks_visible, refusal_by}
+use Rattle.console_state.specs.Order.{asks_visible, asks_directed, refusal_by}
 
 -- the item is visible where the form asks that, and there at least
 abbrev pub StandsIn : GraphState → Form → ItemName → Type 0
@@ -28,6 +29,10 @@ IsMet g form arg = ⊤
 abbrev pub AreMet : GraphState → List Form → List Arg → Type 0
 AreMet g (form ∷ forms) (arg ∷ later) = IsMet g form arg × AreMet g forms later
 AreMet g forms args = ⊤
+
+-- the graph is of the kind that the command asks for
+abbrev pub IsOfKind : GraphState → Word → Type 0
+IsOfKind g word = OnTrue (asks_directed word) (g.directed ≡ true)
 
 -- the item is there
 abbrev pub IsLive : Standing → Type 0

@@ -1,5 +1,5 @@
 -- What each edit does to the graph, and what it is answered.
-use Rattle.std.specs.Prelude.{ℕ, Bool, not, Option, Some, None, ◌+◌, ◌==◌, ◌&&◌, if◌then◌else◌, List, [], ◌∷◌, length}
+use Rattle.std.specs.Prelude.{ℕ, pos, Bool, not, Option, Some, None, ◌+◌, ◌==◌, ◌&&◌, if◌then◌else◌, List, [], ◌∷◌, length}
 use Rattle.std.specs.FinSet as set
 use Rattle.item_pool.specs.declared.pool.TheConstants.{MOST_SERIALS}
 use Rattle.leda_base.specs.declared.ItemName.TheVariants as items
@@ -9,11 +9,12 @@ use Rattle.graph_state.specs.declared.kind.Side.TheVariants.{Before, Behind}
 use Rattle.graph_state.specs.State.{GraphState, source, target}
 use Rattle.graph_state.specs.Beside.{with_edge_beside}
 use Rattle.graph_state.specs.Edits.{with_node, with_edge, without_edge, without_node, reversed, moved, all_reversed, made_undirected, made_directed, cleared, with_node_label, with_edge_label, paired, edge_hidden, edge_restored, node_hidden, node_restored, all_restored}
+use Rattle.graph_rev.specs.Pairing.{map_made, unpaired_count}
 use Rattle.script_text.specs.declared.argument.Arg.{Arg}
 use Rattle.script_text.specs.declared.argument.Arg.TheVariants as args
 use Rattle.script_text.specs.declared.word.EditWord.{EditWord}
 use Rattle.script_text.specs.declared.word.EditWord.TheVariants as edits
-use Rattle.reply_text.specs.declared.reply.ReplyLine.TheVariants.{Empty, Name}
+use Rattle.reply_text.specs.declared.reply.ReplyLine.TheVariants.{Empty, Num, Name}
 use Rattle.reply_text.specs.declared.refusal.Refusal.{Refusal}
 use Rattle.reply_text.specs.declared.refusal.Refusal.TheVariants.{Hidden, NotHidden, Opposite, FullNodes, FullEdges, Spent}
 use Rattle.reply_text.specs.Outcome.{Outcome, done, refused, unless}
@@ -73,6 +74,10 @@ abbrev pub restore_node : ℕ → GraphState → Outcome GraphState
 restore_node v g = if set.contains g.hidden_nodes v then done (node_restored v g) Empty
     else refused g (NotHidden (items.Node v))
 
+-- `make_map`
+abbrev pub make_map : GraphState → Outcome GraphState
+make_map g = let paired = map_made g in done paired (Num (pos (unpaired_count paired)))
+
 -- an edit by its word, if these are arguments that the word takes
 abbrev pub graph_edited : EditWord → List Arg → GraphState → Option (Outcome GraphState)
 graph_edited edits.Node (args.Label label ∷ []) g = Some (node label g)
@@ -96,6 +101,7 @@ graph_edited edits.SetLabel (args.Node v ∷ args.Label label ∷ []) g =
 graph_edited edits.SetLabel (args.Edge e ∷ args.Label label ∷ []) g =
     Some (done (with_edge_label e label g) Empty)
 graph_edited edits.SetReversal (args.Edge e ∷ args.Edge f ∷ []) g = Some (set_reversal e f g)
+graph_edited edits.MakeMap [] g = Some (make_map g)
 graph_edited edits.HideEdge (args.Edge e ∷ []) g = Some (hide_edge e g)
 graph_edited edits.RestoreEdge (args.Edge e ∷ []) g = Some (restore_edge e g)
 graph_edited edits.HideNode (args.Node v ∷ []) g = Some (hide_node v g)

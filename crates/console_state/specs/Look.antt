@@ -1,5 +1,5 @@
--- What each look at the graph tells.
-use Rattle.std.specs.Prelude.{ℕ, Option, Some, None, if◌then◌else◌, List, [], ◌∷◌, ◌++◌, length, map, option_map}
+-- What each look at the graph tells, or is refused by.
+use Rattle.std.specs.Prelude.{ℕ, Option, Some, None, Result, Ok, Err, if◌then◌else◌, List, [], ◌∷◌, ◌++◌, length, map}
 use Rattle.leda_base.specs.declared.ItemName.{ItemName}
 use Rattle.leda_base.specs.declared.ItemName.TheVariants as items
 use Rattle.graph_defs.specs.declared.dart.Dart.{Dart}
@@ -10,6 +10,8 @@ use Rattle.script_text.specs.declared.argument.Arg.{Arg}
 use Rattle.script_text.specs.declared.argument.Arg.TheVariants as args
 use Rattle.script_text.specs.declared.word.LookWord.{LookWord}
 use Rattle.script_text.specs.declared.word.LookWord.TheVariants as looks
+use Rattle.reply_text.specs.declared.refusal.Refusal.{Refusal}
+use Rattle.reply_text.specs.declared.refusal.Refusal.TheVariants as refusals
 use Rattle.reply_text.specs.declared.reply.ReplyLine.{ReplyLine}
 use Rattle.reply_text.specs.declared.reply.ReplyLine.TheVariants.{Nil, Two, Name, Names, Label}
 
@@ -43,24 +45,40 @@ darts_before e g = before (front e) (visible_out g (source g e))
 abbrev pub darts_behind : ℕ → GraphState → List Dart
 darts_behind e g = behind (front e) (visible_out g (source g e))
 
+-- the edge before e in the cyclic order of the visible out list where it begins
+abbrev pub cyclic_pred : ℕ → GraphState → ReplyLine
+cyclic_pred e g = edge_line (last_of (front e ∷ darts_behind e g ++ darts_before e g))
+
+-- what a look tells, or is refused by
+abbrev pub Told : Type 0
+Told = Result ReplyLine Refusal
+
+abbrev pub tells : ReplyLine → Option Told
+tells line = Some (Ok line)
+
+-- behind an edge round its face stands the edge before its visible reversal, if it has one
+abbrev pub face_succ : Option ℕ → ℕ → GraphState → Told
+face_succ None e g = Err (refusals.Reversal e)
+face_succ (Some f) e g = Ok (cyclic_pred f g)
+
 -- a look by its word, if these are arguments that the word takes
-abbrev pub graph_looked : LookWord → List Arg → GraphState → Option ReplyLine
-graph_looked looks.Count [] g = Some (Two (length (visible_nodes g)) (length (visible_edges g)))
-graph_looked looks.Nodes [] g = Some (Names (map items.Node (visible_nodes g)))
-graph_looked looks.Edges [] g = Some (Names (map items.Edge (visible_edges g)))
-graph_looked looks.OutEdges (args.Node v ∷ []) g = Some (Names (map edge_name (visible_out g v)))
-graph_looked looks.InEdges (args.Node v ∷ []) g = Some (Names (map edge_name (visible_in g v)))
-graph_looked looks.FirstAdj (args.Node v ∷ []) g = Some (edge_line (first_of (visible_out g v)))
-graph_looked looks.LastAdj (args.Node v ∷ []) g = Some (edge_line (last_of (visible_out g v)))
-graph_looked looks.AdjSucc (args.Edge e ∷ []) g = Some (edge_line (first_of (darts_behind e g)))
-graph_looked looks.AdjPred (args.Edge e ∷ []) g = Some (edge_line (last_of (darts_before e g)))
+abbrev pub graph_looked : LookWord → List Arg → GraphState → Option Told
+graph_looked looks.Count [] g = tells (Two (length (visible_nodes g)) (length (visible_edges g)))
+graph_looked looks.Nodes [] g = tells (Names (map items.Node (visible_nodes g)))
+graph_looked looks.Edges [] g = tells (Names (map items.Edge (visible_edges g)))
+graph_looked looks.OutEdges (args.Node v ∷ []) g = tells (Names (map edge_name (visible_out g v)))
+graph_looked looks.InEdges (args.Node v ∷ []) g = tells (Names (map edge_name (visible_in g v)))
+graph_looked looks.FirstAdj (args.Node v ∷ []) g = tells (edge_line (first_of (visible_out g v)))
+graph_looked looks.LastAdj (args.Node v ∷ []) g = tells (edge_line (last_of (visible_out g v)))
+graph_looked looks.AdjSucc (args.Edge e ∷ []) g = tells (edge_line (first_of (darts_behind e g)))
+graph_looked looks.AdjPred (args.Edge e ∷ []) g = tells (edge_line (last_of (darts_before e g)))
 graph_looked looks.CyclicAdjSucc (args.Edge e ∷ []) g =
-    Some (edge_line (first_of (darts_behind e g ++ darts_before e g ++ front e ∷ [])))
-graph_looked looks.CyclicAdjPred (args.Edge e ∷ []) g =
-    Some (edge_line (last_of (front e ∷ darts_behind e g ++ darts_before e g)))
-graph_looked looks.Source (args.Edge e ∷ []) g = Some (Name (items.Node (source g e)))
-graph_looked looks.Target (args.Edge e ∷ []) g = Some (Name (items.Node (target g e)))
-graph_looked looks.Reversal (args.Edge e ∷ []) g = Some (number_line (visible_reversal g e))
-graph_looked looks.GetLabel (args.Node v ∷ []) g = Some (Label (node_label g v))
-graph_looked looks.GetLabel (args.Edge e ∷ []) g = Some (Label (edge_label g e))
+    tells (edge_line (first_of (darts_behind e g ++ darts_before e g ++ front e ∷ [])))
+graph_looked looks.CyclicAdjPred (args.Edge e ∷ []) g = tells (cyclic_pred e g)
+graph_looked looks.Source (args.Edge e ∷ []) g = tells (Name (items.Node (source g e)))
+graph_looked looks.Target (args.Edge e ∷ []) g = tells (Name (items.Node (target g e)))
+graph_looked looks.Reversal (args.Edge e ∷ []) g = tells (number_line (visible_reversal g e))
+graph_looked looks.FaceSucc (args.Edge e ∷ []) g = Some (face_succ (visible_reversal g e) e g)
+graph_looked looks.GetLabel (args.Node v ∷ []) g = tells (Label (node_label g v))
+graph_looked looks.GetLabel (args.Edge e ∷ []) g = tells (Label (edge_label g e))
 graph_looked word args g = None

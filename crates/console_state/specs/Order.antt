@@ -103,6 +103,7 @@ leftmost s rule forms args = None
 abbrev pub asks_directed : Word → Bool
 asks_directed (Edit word) = false
 asks_directed (Look looks.InEdges) = true
+asks_directed (Look looks.FaceSucc) = true
 asks_directed (Look word) = false
 asks_directed (Query queries.Reach) = true
 

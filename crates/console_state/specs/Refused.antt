@@ -1,13 +1,21 @@
--- Private: what the graph refuses, as it is replied.
+-- Private: what the graph and looks refuse, as it is replied.
+use Rattle.std.specs.Prelude.{◌≡◌, ◌⊎◌, true, List, Some, Err}
 use Rattle.item_pool.specs.declared.pool.Gone.{Gone}
 use Rattle.item_pool.specs.declared.pool.Gone.TheVariants.{Dead, Unknown}
 use Rattle.leda_base.specs.declared.ItemName.{ItemName}
 use Rattle.graph_state.specs.declared.refusal.EditRefusal.{EditRefusal}
 use Rattle.graph_state.specs.declared.refusal.EditRefusal.TheVariants as edits
+use Rattle.graph_state.specs.State.{GraphState}
+use Rattle.script_text.specs.declared.argument.Arg.{Arg}
+use Rattle.script_text.specs.declared.word.LookWord.{LookWord}
+use Rattle.script_text.specs.declared.word.Word.TheVariants.{Look}
+use Rattle.script_text.specs.Table.{may_lack_memory}
 use Rattle.reply_text.specs.declared.refusal.Refusal.{Refusal}
 use Rattle.reply_text.specs.declared.refusal.Refusal.TheVariants as refusals
+use Rattle.reply_text.specs.Refusals.{IsRefusalNamed}
 use Rattle.console_state.specs.declared.order.Standing.{Standing}
 use Rattle.console_state.specs.declared.order.Standing.TheVariants as stands
+use Rattle.console_state.specs.Look.{graph_looked}
 
 abbrev pub gone_refusal : ItemName → Gone → Refusal
 gone_refusal x Dead = refusals.Dead x
@@ -25,3 +33,9 @@ edit_refusal edits.FullNodes = refusals.FullNodes
 edit_refusal edits.FullEdges = refusals.FullEdges
 edit_refusal edits.Spent = refusals.Spent
 edit_refusal edits.NoMemory = refusals.Memory
+
+-- a look lacks memory, which it is free to, or is refused as its row says
+abbrev pub IsLookRefused : LookWord → List Arg → GraphState → Refusal → Type 0
+IsLookRefused word args g refusal = IsRefusalNamed refusal
+    × (((refusal ≡ refusals.Memory) × (may_lack_memory (Look word) ≡ true))
+    ⊎ (graph_looked word args g ≡ Some (Err refusal)))

@@ -1,5 +1,5 @@
 -- What a command does.
-use Rattle.std.specs.Prelude.{◌≡◌, ◌⊎◌, List, Option, Some, None, option_map}
+use Rattle.std.specs.Prelude.{◌≡◌, ◌⊎◌, List, Option, Some, None, Ok, Err, option_map}
 use Rattle.leda_edge.specs.Stored.{Stored}
 use Rattle.script_text.specs.declared.argument.Arg.{Arg}
 use Rattle.script_text.specs.declared.word.EditWord.{EditWord}
@@ -14,7 +14,7 @@ use Rattle.reply_text.specs.declared.reply.Reply.{Reply}
 use Rattle.reply_text.specs.Outcome.{Outcome, done, refused, LacksMemory, IsQuiet}
 use Rattle.console_state.specs.State.{State, on_graph}
 use Rattle.console_state.specs.Graph.{graph_edited}
-use Rattle.console_state.specs.Look.{graph_looked}
+use Rattle.console_state.specs.Look.{Told, graph_looked}
 use Rattle.console_state.specs.Order.{first_refusal}
 use Rattle.console_state.specs.Query.{Answers}
 
@@ -22,9 +22,14 @@ use Rattle.console_state.specs.Query.{Answers}
 abbrev pub edited : EditWord → List Arg → State → Option (Outcome State)
 edited word args s = option_map (on_graph s) (graph_edited word args s.graph)
 
+-- the look tells its line, or is refused; nothing changes
+abbrev pub told : State → Told → Outcome State
+told s (Ok line) = done s line
+told s (Err refusal) = refused s refusal
+
 -- a look by its word, if these are arguments that the word takes
 abbrev pub looked : LookWord → List Arg → State → Option (Outcome State)
-looked word args s = option_map (done s) (graph_looked word args s.graph)
+looked word args s = option_map (told s) (graph_looked word args s.graph)
 
 -- the session with the answer to a query kept for a later check; that to `reach` isn't kept
 abbrev pub with_kept : Said → Reply → State → State
@@ -36,7 +41,7 @@ pub record Edits (word : EditWord) (args : List Arg) (s : State) (f : Stored)
   pub outcome : edited word args s ≡ Some (s', reply)
   pub files : f' ≡ f
 
--- the look tells what its word says; nothing changes
+-- the look is answered as its word says; nothing changes
 pub record LooksAt (word : LookWord) (args : List Arg) (s : State) (f : Stored)
     (reply : Reply) (s' : State) (f' : Stored) : Type 0 where
   pub outcome : looked word args s ≡ Some (s', reply)

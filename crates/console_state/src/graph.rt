@@ -12,7 +12,7 @@ mod change;
 mod hide;
 mod make;
 
-use change::{delete_edge, delete_node, move_edge, pair, reverse_edge};
+use change::{delete_edge, delete_node, move_edge, pair, pair_all, reverse_edge};
 use graph_core::{Graph, Side};
 use hide::{hide_a_node, hide_an_edge, restore_a_node, restore_an_edge};
 use hide_restore::restore_all;
@@ -82,7 +82,8 @@ pub(crate) fn edit(alloc: Global, graph: &mut Graph, word: EditWord, args: &[Arg
         | EditWord::MakeUndirected
         | EditWord::MakeDirected
         | EditWord::Clear
-        | EditWord::RestoreAll => change_all(graph, word),
+        | EditWord::RestoreAll
+        | EditWord::MakeMap => change_all(graph, word),
     }
 }
 
@@ -132,6 +133,7 @@ fn change_all(graph: &mut Graph, word: EditWord) -> Reply
         EditWord::MakeDirected => graph.make_directed(),
         EditWord::Clear => graph.clear(),
         EditWord::RestoreAll => restore_all(graph),
+        EditWord::MakeMap => return pair_all(graph),
         _ => unreachable!(),
     }
     Reply::Line(ReplyLine::Empty)

@@ -1,36 +1,39 @@
 //! The looks at a session's graph.
-ghost use Rattle.std.specs.Prelude.{◌≡◌, true, [], ◌∷◌, Some, IsSome, option_map, IfOk, OnErr};
+ghost use Rattle.std.specs.Prelude.{◌≡◌, true, [], ◌∷◌, Some, IsSome, option_map, IfOk, IfErr};
 ghost use Rattle.leda_base.specs.declared.ItemName.TheVariants as items;
 ghost use Rattle.graph_state.specs.declared.item.EdgeItem.{EdgeItem};
 ghost use Rattle.graph_state.specs.Refusals.{AreVisible};
 ghost use Rattle.script_text.specs.declared.argument.Arg.TheVariants as args;
 ghost use Rattle.script_text.specs.declared.word.LookWord.TheVariants as looks;
 ghost use Rattle.script_text.specs.declared.word.Word.TheVariants as words;
-ghost use Rattle.script_text.specs.Table.{forms_of, may_lack_memory, IsWhole};
-ghost use Rattle.console_state.specs.Clear.{AreMet};
-ghost use Rattle.console_state.specs.Look.{graph_looked, number_line};
+ghost use Rattle.script_text.specs.Table.{forms_of, IsWhole};
+ghost use Rattle.console_state.specs.Clear.{AreMet, IsOfKind};
+ghost use Rattle.console_state.specs.Look.{graph_looked, number_line, tells};
+ghost use Rattle.console_state.specs.Refused.{IsLookRefused};
 
 use crate::names::names;
 use graph_core::{EdgeItem, Graph};
-use leda_base::{ItemName, NoMemory, Row};
-use reply_text::ReplyLine;
+use graph_rev::{FaceRefusal, face_succ};
+use leda_base::{ItemName, Row};
+use reply_text::{Refusal, ReplyLine};
 use script_text::{Arg, LookWord};
 use std::alloc::Global;
 
 /// What a look tells in whose way nothing stands.
 ///
 /// # Errors
-/// `NoMemory`, only for a look whose reply may be of any length.
+/// `Memory`, only for a look whose reply may be of any length; and what the look is refused by.
 pub(crate) fn look(
     alloc: Global,
     graph: &Graph,
     word: LookWord,
     args: &[Arg],
-) -> Result<ReplyLine, NoMemory>
+) -> Result<ReplyLine, Refusal>
     requires whole { IsWhole (record { word = words.Look word; args = args.now }) }
     requires met { AreMet graph.now (forms_of (words.Look word)) args.now }
-    ensures ok { IfOk result (λ line. graph_looked word args.now graph.now ≡ Some line) }
-    ensures err { OnErr result (may_lack_memory (words.Look word) ≡ true) }
+    requires kind { IsOfKind graph.now (words.Look word) }
+    ensures ok { IfOk result (λ line. graph_looked word args.now graph.now ≡ tells line) }
+    ensures err { IfErr result (IsLookRefused word args.now graph.now) }
 {
     match word {
         LookWord::Count => Ok(ReplyLine::Two(graph.count_nodes(), graph.count_edges())),
@@ -53,6 +56,10 @@ pub(crate) fn look(
             [Arg::Edge(edge)] => Ok(look_at_edge(graph, word, *edge)),
             _ => unreachable!(),
         },
+        LookWord::FaceSucc => match args {
+            [Arg::Edge(edge)] => next_round_face(graph, *edge),
+            _ => unreachable!(),
+        },
         LookWord::GetLabel => match args {
             [Arg::Node(node)] => node_label(alloc, graph, *node),
             [Arg::Edge(edge)] => edge_label(alloc, graph, *edge),
@@ -61,15 +68,17 @@ pub(crate) fn look(
     }
 }
 
-fn all_nodes(alloc: Global, graph: &Graph) -> Result<ReplyLine, NoMemory>
-    ensures { IfOk result (λ line. graph_looked looks.Nodes [] graph.now ≡ Some line) }
+fn all_nodes(alloc: Global, graph: &Graph) -> Result<ReplyLine, Refusal>
+    ensures ok { IfOk result (λ line. graph_looked looks.Nodes [] graph.now ≡ tells line) }
+    ensures err { IfErr result (IsLookRefused looks.Nodes [] graph.now) }
 {
     let nodes = graph.nodes(alloc)?;
     Ok(ReplyLine::Names(names(alloc, nodes.as_slice())?))
 }
 
-fn all_edges(alloc: Global, graph: &Graph) -> Result<ReplyLine, NoMemory>
-    ensures { IfOk result (λ line. graph_looked looks.Edges [] graph.now ≡ Some line) }
+fn all_edges(alloc: Global, graph: &Graph) -> Result<ReplyLine, Refusal>
+    ensures ok { IfOk result (λ line. graph_looked looks.Edges [] graph.now ≡ tells line) }
+    ensures err { IfErr result (IsLookRefused looks.Edges [] graph.now) }
 {
     let edges = graph.edges(alloc)?;
     Ok(ReplyLine::Names(names(alloc, edges.as_slice())?))
@@ -81,13 +90,13 @@ fn look_at_node(
     graph: &Graph,
     word: LookWord,
     node: u32,
-) -> Result<ReplyLine, NoMemory>
+) -> Result<ReplyLine, Refusal>
     requires takes { IsSome (graph_looked word (args.Node node ∷ []) graph.now) }
     requires visible { AreVisible graph.now (items.Node node ∷ []) }
     requires no_label { word ≡ looks.GetLabel → ⊥ }
     ensures ok { IfOk result
-        (λ line. graph_looked word (args.Node node ∷ []) graph.now ≡ Some line) }
-    ensures err { OnErr result (may_lack_memory (words.Look word) ≡ true) }
+        (λ line. graph_looked word (args.Node node ∷ []) graph.now ≡ tells line) }
+    ensures err { IfErr result (IsLookRefused word (args.Node node ∷ []) graph.now) }
 {
     let Ok(item) = graph.node_item(node) else {
         unreachable!()
@@ -95,13 +104,13 @@ fn look_at_node(
     match word {
         LookWord::OutEdges => {
             let Ok(edges) = graph.out_edges(alloc, item) else {
-                return Err(NoMemory);
+                return Err(Refusal::Memory);
             };
             Ok(ReplyLine::Names(names(alloc, edges.as_slice())?))
         }
         LookWord::InEdges => {
             let Ok(edges) = graph.in_edges(alloc, item) else {
-                return Err(NoMemory);
+                return Err(Refusal::Memory);
             };
             Ok(ReplyLine::Names(names(alloc, edges.as_slice())?))
         }
@@ -126,7 +135,8 @@ fn look_at_edge(graph: &Graph, word: LookWord, edge: u32) -> ReplyLine
     requires takes { IsSome (graph_looked word (args.Edge edge ∷ []) graph.now) }
     requires visible { AreVisible graph.now (items.Edge edge ∷ []) }
     requires no_label { word ≡ looks.GetLabel → ⊥ }
-    ensures { graph_looked word (args.Edge edge ∷ []) graph.now ≡ Some result }
+    requires no_face { word ≡ looks.FaceSucc → ⊥ }
+    ensures { graph_looked word (args.Edge edge ∷ []) graph.now ≡ tells result }
 {
     let Ok(item) = graph.edge_item(edge) else {
         unreachable!()
@@ -164,10 +174,29 @@ fn look_at_edge(graph: &Graph, word: LookWord, edge: u32) -> ReplyLine
     }
 }
 
-fn node_label(alloc: Global, graph: &Graph, node: u32) -> Result<ReplyLine, NoMemory>
+/// The edge behind a visible edge round its face.
+fn next_round_face(graph: &Graph, edge: u32) -> Result<ReplyLine, Refusal>
+    requires visible { AreVisible graph.now (items.Edge edge ∷ []) }
+    requires directed { graph.now.directed ≡ true }
+    ensures ok { IfOk result
+        (λ line. graph_looked looks.FaceSucc (args.Edge edge ∷ []) graph.now ≡ tells line) }
+    ensures err { IfErr result (IsLookRefused looks.FaceSucc (args.Edge edge ∷ []) graph.now) }
+{
+    let Ok(item) = graph.edge_item(edge) else {
+        unreachable!()
+    };
+    match face_succ(graph, item) {
+        Ok(next) => Ok(edge_line(Some(next))),
+        Err(FaceRefusal::NoReversal) => Err(Refusal::Reversal(edge)),
+        Err(FaceRefusal::Look(_) | FaceRefusal::Undirected) => unreachable!(),
+    }
+}
+
+fn node_label(alloc: Global, graph: &Graph, node: u32) -> Result<ReplyLine, Refusal>
     requires { AreVisible graph.now (items.Node node ∷ []) }
-    ensures { IfOk result
-        (λ line. graph_looked looks.GetLabel (args.Node node ∷ []) graph.now ≡ Some line) }
+    ensures ok { IfOk result
+        (λ line. graph_looked looks.GetLabel (args.Node node ∷ []) graph.now ≡ tells line) }
+    ensures err { IfErr result (IsLookRefused looks.GetLabel (args.Node node ∷ []) graph.now) }
 {
     let Ok(item) = graph.node_item(node) else {
         unreachable!()
@@ -178,10 +207,11 @@ fn node_label(alloc: Global, graph: &Graph, node: u32) -> Result<ReplyLine, NoMe
     Ok(ReplyLine::Label(Row::from_slice(alloc, label)?))
 }
 
-fn edge_label(alloc: Global, graph: &Graph, edge: u32) -> Result<ReplyLine, NoMemory>
+fn edge_label(alloc: Global, graph: &Graph, edge: u32) -> Result<ReplyLine, Refusal>
     requires { AreVisible graph.now (items.Edge edge ∷ []) }
-    ensures { IfOk result
-        (λ line. graph_looked looks.GetLabel (args.Edge edge ∷ []) graph.now ≡ Some line) }
+    ensures ok { IfOk result
+        (λ line. graph_looked looks.GetLabel (args.Edge edge ∷ []) graph.now ≡ tells line) }
+    ensures err { IfErr result (IsLookRefused looks.GetLabel (args.Edge edge ∷ []) graph.now) }
 {
     let Ok(item) = graph.edge_item(edge) else {
         unreachable!()

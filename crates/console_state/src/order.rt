@@ -285,7 +285,7 @@ fn asks_directed(word: Word) -> bool
     ensures { result ≡ asks_directed word }
 {
     match word {
-        Word::Look(LookWord::InEdges) | Word::Query(QueryWord::Reach) => true,
+        Word::Look(LookWord::InEdges | LookWord::FaceSucc) | Word::Query(QueryWord::Reach) => true,
         Word::Edit(_) | Word::Look(_) => false,
     }
 }

@@ -11,7 +11,7 @@ ghost use Rattle.reply_text.specs.Text.{IsNamed, IsShort};
 ghost use Rattle.reply_text.specs.Outcome.{LacksMemory, IsQuiet};
 ghost use Rattle.console_state.specs.State.{empty};
 ghost use Rattle.console_state.specs.Views.{standing, stands, has_object, holds_cell, is_directed};
-ghost use Rattle.console_state.specs.Clear.{AreMet};
+ghost use Rattle.console_state.specs.Clear.{AreMet, IsOfKind};
 ghost use Rattle.console_state.specs.Obstacles.{refusal_of, HasName};
 ghost use Rattle.console_state.specs.Query.{Answers};
 ghost use Rattle.console_state.specs.Refused.{standing_of};
@@ -122,6 +122,7 @@ impl Session {
     fn look(&self, word: LookWord, args: &[Arg]) -> Reply
         requires whole { IsWhole (record { word = Word.Look word; args = args.now }) }
         requires met { AreMet self.now.graph (forms_of (Word.Look word)) args.now }
+        requires kind { IsOfKind self.now.graph (Word.Look word) }
         ensures does { LacksMemory (may_lack_memory (Word.Look word)) self.now result self.now
             ⊎ (looked word args.now self.now ≡ Some (self.now, result)) }
         ensures named { IsNamed result }
@@ -129,7 +130,7 @@ impl Session {
     {
         match look(self.alloc, &self.graph, word, args) {
             Ok(line) => Reply::Line(line),
-            Err(NoMemory) => Reply::Refused(Refusal::Memory),
+            Err(refusal) => Reply::Refused(refusal),
         }
     }
 

@@ -5,7 +5,7 @@ ghost use Rattle.reply_text.specs.Refusals.{reason, subject, IsRefusalNamed};
 ghost use Rattle.reply_text.specs.Appending.{subject_words, IsSubjectShort};
 
 use graph_defs::{Kept, TextKind};
-use leda_base::{ItemName, Row};
+use leda_base::{ItemName, NoMemory, Row};
 
 /// Why a line was refused.
 #[derive(Drop)]
@@ -75,6 +75,17 @@ pub enum Refusal {
     Store,
     /// Memory was wanted and not there.
     Memory,
+}
+
+impl From<NoMemory> for Refusal {
+    ghost use Rattle.std.specs.Prelude.{◌≡◌};
+    ghost use Rattle.reply_text.specs.declared.refusal.Refusal.TheVariants as refusals;
+
+    ghost from_gives = { λ _ refusal. refusal ≡ refusals.Memory };
+
+    fn from(_: NoMemory) -> Refusal {
+        Refusal::Memory
+    }
 }
 
 /// What a refusal calls an object by.

@@ -52,7 +52,7 @@ macro_rules! rows {
 pub(crate) use rows;
 
 /// The table. All that is said of a command before it runs is said here.
-pub(crate) const TABLE: [Entry; 35] = rows! {
+pub(crate) const TABLE: [Entry; 37] = rows! {
     "node"             Edit(EditWord::Node)           [LABEL]              Taken;
     "edge"             Edit(EditWord::Edge)           [NODE, NODE, LABEL]  Taken;
     "edge_before"      Edit(EditWord::EdgeBefore)     [EDGE, NODE, LABEL]  Taken;
@@ -63,10 +63,11 @@ pub(crate) const TABLE: [Entry; 35] = rows! {
     "move_edge"        Edit(EditWord::MoveEdge)       [EDGE, NODE, NODE]   NotTaken;
     "clear"            Edit(EditWord::Clear)          []                   NotTaken;
     "rev_all"          Edit(EditWord::RevAll)         []                   NotTaken;
-    "make_undirected"  Edit(EditWord::MakeUndirected)  []                  NotTaken;
+    "make_undirected"  Edit(EditWord::MakeUndirected) []                   NotTaken;
     "make_directed"    Edit(EditWord::MakeDirected)   []                   NotTaken;
     "label"            Edit(EditWord::SetLabel)       [ELEMENT, NEW_LABEL] Taken;
     "set_reversal"     Edit(EditWord::SetReversal)    [EDGE, EDGE]         NotTaken;
+    "make_map"         Edit(EditWord::MakeMap)        []                   NotTaken;
     "hide_edge"        Edit(EditWord::HideEdge)       [LIVE_EDGE]          NotTaken;
     "hide_node"        Edit(EditWord::HideNode)       [LIVE_NODE]          NotTaken;
     "restore_node"     Edit(EditWord::RestoreNode)    [LIVE_NODE]          NotTaken;
@@ -86,6 +87,7 @@ pub(crate) const TABLE: [Entry; 35] = rows! {
     "source"           Look(LookWord::Source)         [EDGE]               NotTaken;
     "target"           Look(LookWord::Target)         [EDGE]               NotTaken;
     "reversal"         Look(LookWord::Reversal)       [EDGE]               NotTaken;
+    "face_succ"        Look(LookWord::FaceSucc)       [EDGE]               NotTaken;
     "get_label"        Look(LookWord::GetLabel)       [ELEMENT]            TakenByReply;
     "reach"            Query(QueryWord::Reach)        [NODE, NODE]         TakenByReply;
 };

@@ -17,6 +17,7 @@ pub enum EditWord {
     Clear,
     SetLabel,
     SetReversal,
+    MakeMap,
     HideEdge,
     HideNode,
     RestoreEdge,
@@ -41,6 +42,7 @@ pub enum LookWord {
     Source,
     Target,
     Reversal,
+    FaceSucc,
     GetLabel,
 }
 

@@ -6,10 +6,10 @@ ghost use Rattle.graph_state.specs.Refusals.{AreVisible};
 ghost use Rattle.reply_text.specs.declared.reply.ReplyLine.TheVariants.{Empty};
 ghost use Rattle.reply_text.specs.Outcome.{Gives, done};
 ghost use Rattle.reply_text.specs.Text.{IsNamed, IsShort};
-ghost use Rattle.console_state.specs.Graph.{set_reversal as opposed};
+ghost use Rattle.console_state.specs.Graph.{set_reversal as opposed, make_map as mapped};
 
 use graph_core::Graph;
-use graph_rev::{RevRefusal, set_reversal};
+use graph_rev::{RevRefusal, make_map, set_reversal};
 use reply_text::{Refusal, Reply, ReplyLine};
 
 /// Makes two visible edges each other's reversal.
@@ -28,6 +28,15 @@ pub(super) fn pair(graph: &mut Graph, e: u32, f: u32) -> Reply
         Err(RevRefusal::NotOpposite) => Reply::Refused(Refusal::Opposite),
         Err(RevRefusal::Look(_)) => unreachable!(),
     }
+}
+
+/// Pairs the visible edges that have no reversal, and tells how many are left without one.
+pub(super) fn pair_all(graph: &mut Graph) -> Reply
+    ensures gives { Gives false (mapped graph.old) graph.old result graph.new }
+    ensures named { IsNamed result }
+    ensures short { IsShort result }
+{
+    Reply::Line(ReplyLine::Num(i64::from(make_map(graph))))
 }
 
 /// Deletes a visible edge.

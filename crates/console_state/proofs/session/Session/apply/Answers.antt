@@ -1,5 +1,5 @@
 use Rattle.script_text.specs.declared.word.Word.TheVariants.{Edit, Look, Query}
-use Rattle.console_state.proofs.Cleared.{cleared}
+use Rattle.console_state.proofs.Cleared.{cleared, kind-met}
 use Rattle.console_state.proofs.session.Session.apply.Goals as goal
 
 pub edit-requires-clause-met : goal.edit-requires-clause-met
@@ -19,3 +19,8 @@ look-requires-clause-met g c = cleared c.args.self.now c.word.result c.forms.res
     c.args-2.result.now (Look c.in-Look.word) c.args.command.now c.args-in-Look.result.now
     c.in_default.ensures.first c.forms.ensures c.args-2.ensures c.in-Look.ensures
     c.args-in-Look.ensures
+
+pub look-requires-clause-kind : goal.look-requires-clause-kind
+look-requires-clause-kind g c = kind-met c.args.self.now c.word.result c.forms.result.now
+    c.args-2.result.now (Look c.in-Look.word) c.args.command.now
+    c.in_default.ensures.first c.word.ensures c.in-Look.ensures
