@@ -19,6 +19,7 @@ use Rattle.graph_state.specs.Formed.{IsLabel}
 use Rattle.graph_state.specs.Refusals.{IsThere, IsGone, AreVisible, RefusesLook, shows_item}
 use Rattle.graph_state.proofs.Same.{nat_tells}
 use Rattle.graph_state.proofs.Has.{filter_has}
+use Rattle.graph_state.proofs.Labels.{no_line}
 use Rattle.script_text.specs.Text.{is_label}
 use Rattle.script_text.specs.declared.form.Form.{Form}
 use Rattle.console_state.specs.declared.order.Standing.TheVariants.{Unknown, Dead, Visible}
@@ -85,13 +86,6 @@ both_visible g x y a b = (a.0, a.1, b)
 -- visible nodes stand in the list of visible nodes
 pub ends_listed : (g : GraphState) (v w : ℕ) → AreVisible g (items.Node v ∷ items.Node w ∷ []) → Has v (visible_nodes g) × Has w (visible_nodes g)
 ends_listed g v w see = (filter_has (shows_node g) v g.nodes see.0 see.1, filter_has (shows_node g) w g.nodes see.2.0 see.2.1)
-
-no_line : (bytes : List ℕ) → list_all (λ b. not (b == 10)) bytes ≡ true → Has 10 bytes → ⊥
-no_line [] all i = i
-no_line (b ∷ bs) all i = elim (nat_tells b 10) [
-  | inl y ↦ let e = subst (λ t. (not t && list_all (λ b. not (b == 10)) bs) ≡ true) y.0 all in cc
-  | inr n ↦ elim i [ inl e ↦ n.1 (sym e) | inr j ↦ no_line bs (subst (λ t. (not t && list_all (λ b. not (b == 10)) bs) ≡ true) n.0 all) j ]
-]
 
 both : (a b : Bool) → (a && b) ≡ true → (a ≡ true) × (b ≡ true)
 both true b e = (refl, e)

@@ -1,5 +1,5 @@
 -- A graph without nodes and edges.
-use Rattle.std.proofs.Common.{◌≡◌, ◌≤◌, Bool, [], None, option_map, refl, sym, ap, subst, ◌∙◌, arith}
+use Rattle.std.proofs.Common.{◌≡◌, ℕ, ◌≤◌, Bool, List, [], None, option_map, refl, sym, ap, subst, ◌∙◌, arith}
 use Rattle.std.specs.Ordering.{nat_cmp}
 use Rattle.std.specs.FinMap as map
 use Rattle.std.specs.FinMap.{get-empty, len-empty}
@@ -7,7 +7,7 @@ use Rattle.graph_state.specs.declared.name.ListName.{ListName}
 use Rattle.graph_state.specs.declared.name.ListName.TheVariants.{Nodes, Edges, Out, In}
 use Rattle.graph_state.specs.declared.name.Element.{Element}
 use Rattle.graph_state.specs.declared.name.Element.TheVariants.{Node, Edge, End}
-use Rattle.graph_state.specs.State.{GraphState, empty_graph}
+use Rattle.graph_state.specs.State.{GraphState, new_graph}
 use Rattle.graph_state.specs.Names.{list_of}
 use Rattle.graph_state.specs.Names as names
 use Rattle.graph_state.specs.Formed.{IsFormed}
@@ -18,12 +18,12 @@ use Rattle.graph_core.specs.declared.cell.NodeCell.{NodeCell}
 use Rattle.graph_core.specs.declared.cell.EdgeCell.{EdgeCell}
 use Rattle.graph_core.specs.Kept.{NodeCells, EdgeCells, heads_of, place_of, end_place, IsNode, IsEdge, IsKept}
 
-module _ (directed : Bool) where
+module _ (directed : Bool) (node_type edge_type : List ℕ) (made_nodes made_edges : ℕ) where
   abbrev none : GraphState
-  none = empty_graph directed
+  none = new_graph directed node_type edge_type made_nodes made_edges
 
   none_cleared : cleared none ≡ none
-  unfolding empty_graph cleared
+  unfolding new_graph cleared
   none_cleared = refl
 
   no_lists : (l : ListName) → list_of none l ≡ []
@@ -31,10 +31,6 @@ module _ (directed : Bool) where
 
   none_live : (x : Element) → names.IsLive none x → ⊥
   none_live x i = nothing_live none x (subst (λ s. names.IsLive s x) (sym none_cleared) i)
-
-  none_made : (none.made_nodes ≤ 16777215) × (none.made_edges ≤ 16777215)
-  unfolding empty_graph
-  none_made = (omega arith, omega arith)
 
   no_heads : (l : ListName) → None ≡ heads_of None map.empty l
   no_heads Nodes = refl
@@ -47,9 +43,9 @@ module _ (directed : Bool) where
   no_places (Edge e) = sym (ap (option_map (λ (c : EdgeCell). c.place)) (get-empty nat_cmp e))
   no_places (End d) = sym (ap (option_map (end_place d.back)) (get-empty nat_cmp d.edge))
 
-  pub kept_none : (t : Lists) (p : NodeCells) (q : EdgeCells) → t.named ≡ nothing_named → (t.heads ≡ 0) × (t.members ≡ 0) → p ≡ map.empty → q ≡ map.empty → IsKept none t None p q
-  unfolding empty_graph
-  kept_none t p q named none_there pe qe =
+  pub kept_none : (t : Lists) (p : NodeCells) (q : EdgeCells) → t.named ≡ nothing_named → (t.heads ≡ 0) × (t.members ≡ 0) → p ≡ map.empty → q ≡ map.empty → (made_nodes ≤ 16777215) × (made_edges ≤ 16777215) → IsKept none t None p q
+  unfolding new_graph
+  kept_none t p q named none_there pe qe made =
       let plen : map.len p ≡ 0 = ap map.len pe ∙ len-empty nat_cmp NodeCell in
       let qlen : map.len q ≡ 0 = ap map.len qe ∙ len-empty nat_cmp EdgeCell in
       record {
@@ -64,6 +60,6 @@ module _ (directed : Bool) where
         few_heads = omega (arith, none_there.0);
         few_members = omega (arith, none_there.1);
         counted = (plen, qlen);
-        formed = subst IsFormed none_cleared (formed_cleared none none_made);
+        formed = subst IsFormed none_cleared (formed_cleared none made);
         rise = tt;
       }

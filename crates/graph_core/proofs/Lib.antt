@@ -28,3 +28,4 @@ pub mod Gathering
 pub mod KindKept
 pub mod Rises
 pub mod Opposite
+pub mod Replaces

@@ -10,6 +10,7 @@ pub mod Moves
 pub mod Opposite
 pub mod Pairs
 pub mod Removal
+pub mod Replaces
 pub mod Restores
 pub mod Steps
 pub mod Turns

@@ -19,11 +19,12 @@ mod moving;
 mod opposite;
 mod pairs;
 mod removal;
+mod replacing;
 mod walks;
 mod whole;
 
 use crate::cell::{EdgeCell, Heads, NodeCell};
-use crate::seen::{GraphView, begin};
+use crate::seen::GraphView;
 use graph_lists::Lists;
 use graph_state::{EdgeItem, Gone, Kind, NodeItem};
 use item_pool::Pool;
@@ -66,16 +67,7 @@ impl Graph {
         ensures { result ≡ empty_graph (is_directed kind) }
     {
         let directed = matches!(kind, Kind::Directed);
-        Graph {
-            lists: Lists::new(alloc),
-            heads: None,
-            nodes: Pool::new(alloc),
-            edges: Pool::new(alloc),
-            directed,
-            node_type: Row::new(alloc),
-            edge_type: Row::new(alloc),
-            seen: begin(directed),
-        }
+        Graph::begin(directed, Row::new(alloc), Row::new(alloc), 0, 0)
     }
 
     /// The kind of the graph.

@@ -20,8 +20,14 @@ impl Model for GraphView {
     ghost view = { λ _. empty_graph true };
 }
 
-/// At the start `first` is seen. The flag is one that it may be made of.
-pub(crate) fn begin(directed: bool) -> Seen<GraphView>
+/// At the start `first` is seen. The arguments are what it may be made of.
+pub(crate) fn begin(
+    directed: bool,
+    node_type: &Row<u8>,
+    edge_type: &Row<u8>,
+    made_nodes: u32,
+    made_edges: u32,
+) -> Seen<GraphView>
     ghost first: { GraphState }
     ensures { result.view ≡ first }
 {

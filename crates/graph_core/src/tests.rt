@@ -3,6 +3,7 @@
 mod kinds;
 mod moving;
 mod removal;
+mod replacing;
 mod whole;
 
 use crate::{EdgeItem, Gone, Graph, Kind, NodeItem};

@@ -1,13 +1,12 @@
 -- No matching has more edges than an odd-set cover's size: sums over nodes and over edges.
-use Rattle.std.proofs.Common.{◌≡◌, ◌≢◌, ◌⊎◌, inl, inr, ℕ, zero, suc, ◌+◌, ◌-◌, ◌*◌, ◌/◌, ◌<◌, ◌≤◌, leb, max, Bool, true, false, ◌&&◌, ◌||◌, cond, eqb, List, [], ◌∷◌, length, take, get_or, refl, sym, ◌∙◌, ap, subst, All, arith}
+use Rattle.std.proofs.Common.{◌≡◌, ◌≢◌, ◌⊎◌, inl, inr, ℕ, zero, suc, ◌+◌, ◌-◌, ◌*◌, ◌/◌, ◌<◌, ◌≤◌, leb, Bool, true, false, ◌&&◌, ◌||◌, cond, eqb, List, [], ◌∷◌, length, take, get_or, refl, sym, ◌∙◌, ap, subst, All, arith}
 use Rattle.std.proofs.lemmas.Bool.{true≢false, cases_eq, eq-eqb, eqb-true, ne_eqb}
 use Rattle.std.proofs.lemmas.List.{take_all}
-use Rattle.std.proofs.lemmas.List.Elements.{All-head, All-tail}
+use Rattle.std.proofs.lemmas.List.Elements.{All-tail}
 use Rattle.std.proofs.lemmas.Bool.Decides.{nat_tests}
-use Rattle.graph_defs.specs.declared.matching.MatchAnswer.{MatchAnswer}
 use Rattle.graph_defs.specs.declared.net.Net.{Net}
 use Rattle.graph_defs.specs.Count.{times}
-use Rattle.graph_defs.specs.Net.{Ends, IsValid, source, target}
+use Rattle.graph_defs.specs.Net.{IsValid, source, target}
 use Rattle.graph_defs.specs.Sum.{total_below}
 use Rattle.graph_defs.specs.Matching.{is_end, degree, IsMatching, covers, IsOddSetCover, greatest, halves, cover_size}
 use Rattle.graph_defs.proofs.Counts.{times_more}

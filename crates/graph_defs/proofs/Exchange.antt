@@ -1,5 +1,5 @@
 -- The exchange of sums over nodes and arcs, and the laws of flows that follow from it.
-use Rattle.std.proofs.Common.{◌≡◌, ◌≢◌, ◌⊎◌, inl, inr, ℕ, zero, suc, ◌+◌, ◌*◌, ◌<◌, ◌≤◌, ℤ, pos, negsuc, ◌+ℤ◌, ◌-ℤ◌, ◌*ℤ◌, ◌≤ℤ◌, ◌<ℤ◌, Bool, true, false, not, cond, ◌&&◌, eqb, List, [], ◌∷◌, length, refl, sym, ◌∙◌, ap, subst, arith}
+use Rattle.std.proofs.Common.{◌≡◌, ◌⊎◌, inl, inr, ℕ, zero, suc, ◌+◌, ◌*◌, ◌<◌, ◌≤◌, ℤ, pos, negsuc, ◌+ℤ◌, ◌-ℤ◌, ◌*ℤ◌, ◌≤ℤ◌, ◌<ℤ◌, Bool, true, false, not, ◌&&◌, eqb, List, [], length, refl, sym, ◌∙◌, ap, arith}
 use borrow.Author.Differences.{up, down, ints}
 use Rattle.std.proofs.lemmas.Bool.{cases_eq, eq-eqb, ne_eqb}
 use Rattle.std.proofs.lemmas.Int.{by_lt_z}
@@ -8,8 +8,8 @@ use Rattle.graph_defs.specs.declared.net.Net.{Net}
 use Rattle.graph_defs.specs.Net.{IsValid, source, target}
 use Rattle.graph_defs.specs.Set.{is_in, leaves, enters, IsCut}
 use Rattle.graph_defs.specs.Sum.{sum_below, at, when}
-use Rattle.graph_defs.specs.Flow.{share, outflow_below, outflow, AreWithin, IsFlow, capacity}
-use Rattle.graph_defs.specs.Cost.{IsFeasible, cost_of, reduced, IsReducedAt, IsReduced, surplus, supply_of, pressure_below, IsExcluding}
+use Rattle.graph_defs.specs.Flow.{share, outflow_below, outflow, IsFlow, capacity}
+use Rattle.graph_defs.specs.Cost.{IsFeasible, cost_of, reduced, IsReduced, IsExcluding}
 use Rattle.graph_defs.proofs.Sums.{sum_same, sum_le, sum_add, sum_sub, sum_zero, sum_only, mul_add, mul_sub, mul_comm}
 
 -- ---- products with a bound

@@ -1,17 +1,16 @@
 -- A right answer on shortest paths tells least weights.
-use Rattle.std.proofs.Common.{◌≡◌, ◌⊎◌, inl, inr, ℕ, zero, suc, ◌+◌, ◌<◌, ◌≤◌, ℤ, pos, ◌+ℤ◌, ◌-ℤ◌, ◌≤ℤ◌, ◌<ℤ◌, List, [], ◌∷◌, ◌++◌, length, take, get_or, refl, sym, ◌∙◌, ap, subst, arith}
+use Rattle.std.proofs.Common.{◌≡◌, ◌⊎◌, inl, inr, ℕ, zero, suc, ◌<◌, ℤ, pos, ◌+ℤ◌, ◌-ℤ◌, ◌≤ℤ◌, ◌<ℤ◌, List, [], ◌∷◌, ◌++◌, length, take, get_or, refl, sym, ◌∙◌, ap, subst, arith}
 use borrow.Author.Differences.{ints}
 use Rattle.std.specs.Prelude.{Option, Some, None, IfSome}
 use Rattle.graph_defs.specs.declared.net.Net.{Net}
 use Rattle.graph_defs.specs.declared.shortest.SpAnswer.{SpAnswer}
-use Rattle.graph_defs.specs.declared.shortest.Finite.{Finite}
 use Rattle.graph_defs.specs.declared.shortest.Low.{Low}
 use Rattle.graph_defs.specs.declared.shortest.Why.{Why}
 use Rattle.graph_defs.specs.declared.shortest.Why.TheVariants as why
 use Rattle.graph_defs.specs.Net.{IsValid, source, target}
 use Rattle.graph_defs.specs.Sum.{at}
 use Rattle.graph_defs.specs.Walk.{IsWalk}
-use Rattle.graph_defs.specs.Shortest.{weight, IsLeastWeight, HasNoLeastWeight, IsUnreached, finite_at, low_at, seed_at, IsFinite, IsLow, IsToldUnreached, listed, IsReasonBelow, IsFirstFinite, IsLowSource, IsSource, IsTightBy, IsSeedAt, HasReason, IsShortest, GivesLeastWeights}
+use Rattle.graph_defs.specs.Shortest.{weight, IsLeastWeight, HasNoLeastWeight, IsUnreached, finite_at, low_at, seed_at, IsFinite, IsLow, IsToldUnreached, IsReasonBelow, IsFirstFinite, IsSource, IsTightBy, IsSeedAt, HasReason, IsShortest, GivesLeastWeights}
 use Rattle.graph_defs.proofs.Weights.{arcs_append, arcs_push, arcs_take, weight_append, weight_push, pumped, beyond}
 use Rattle.graph_defs.proofs.Listed.{kinds, finite_not_low, finite_not_unreached, low_not_unreached, same_finite}
 

@@ -1,15 +1,14 @@
 -- The nodes of an answer on shortest paths by their places, and that each node is of one kind.
-use Rattle.std.proofs.Common.{◌≡◌, ◌⊎◌, inl, inr, ℕ, zero, suc, ◌+◌, ◌-◌, ◌<◌, ◌≤◌, List, [], ◌∷◌, ◌++◌, length, map, get_or, refl, sym, ◌∙◌, ap, subst, arith, length-append}
-use Rattle.std.specs.Prelude.{Option, None, pos}
+use Rattle.std.proofs.Common.{◌≡◌, ◌⊎◌, inl, inr, ℕ, ◌+◌, ◌-◌, ◌<◌, ◌≤◌, List, ◌++◌, length, map, get_or, sym, ◌∙◌, subst, arith, length-append}
+use Rattle.std.specs.Prelude.{None, pos}
 use Rattle.std.proofs.lemmas.Bool.{cases_lt}
 use Rattle.std.proofs.lemmas.List.{length-map, get_or-map, get_or_append_left, get_or-append-add}
 use Rattle.graph_defs.specs.declared.shortest.SpAnswer.{SpAnswer}
 use Rattle.graph_defs.specs.declared.shortest.Finite.{Finite}
 use Rattle.graph_defs.specs.declared.shortest.Low.{Low}
 use Rattle.graph_defs.specs.declared.shortest.Why.TheVariants as why
-use Rattle.graph_defs.specs.Count.{times}
 use Rattle.graph_defs.specs.Shortest.{listed, finite_at, low_at, IsFinite, IsLow, IsToldUnreached, IsOnce}
-use Rattle.graph_defs.proofs.Counts.{times_has, has_times, same_place}
+use Rattle.graph_defs.proofs.Counts.{times_has, same_place}
 
 abbrev pub finite_nodes : SpAnswer → List ℕ
 finite_nodes a = map (λ (f : Finite). f.node) a.finite

@@ -1,5 +1,5 @@
 -- Darts: the two halves of each edge, at its two ends; walks that go along edges either way.
-use Rattle.std.specs.Prelude.{◌≡◌, ℕ, zero, suc, ◌+◌, ◌*◌, ◌≤◌, cond, List, [], ◌∷◌}
+use Rattle.std.specs.Prelude.{ℕ, zero, suc, ◌+◌, ◌*◌, ◌≤◌, cond, List, [], ◌∷◌}
 use Rattle.graph_defs.specs.declared.dart.Dart.{Dart}
 use Rattle.graph_defs.specs.declared.net.Net.{Net}
 use Rattle.graph_defs.specs.Net.{Ends}

@@ -6,6 +6,7 @@ pub mod Grouped
 pub mod Layout
 pub mod Matching
 pub mod Net
+pub mod Plain
 pub mod Set
 pub mod Shortest
 pub mod Sum

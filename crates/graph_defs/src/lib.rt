@@ -10,6 +10,7 @@
 //! - `Walk.antt`: walks along any steps, those along arcs, and the sets that no arc leaves;
 //! - `Dart.antt`: the two halves of an edge by their numbers, and walks along darts;
 //! - `Grouped.antt`: pairs of numbers in rows by their keys, which searches go over;
+//! - `Plain.antt`: graphs as files have them, and which of them are valid;
 //! - `Verdict.antt`: what the verdict of a checker says, whatever its conditions are.
 //!
 //! A new kind of answer gets a type in `answer`, a file of `specs/` that says when it is right of a

@@ -1,7 +1,6 @@
 -- A state with a new edge whose front dart stands next to another one is well-formed.
 use Rattle.std.proofs.Common.{◌≡◌, ℕ, ◌+◌, Bool, true, false, cond, ◌==◌, List, [], ◌∷◌, ◌++◌, Some, unwrap_or, refl, sym, ap, subst, ◌∙◌, ◌⊎◌, inl, inr}
 use Rattle.std.proofs.Common as list
-use Rattle.std.specs.FinMap as map
 use Rattle.graph_defs.specs.declared.dart.Dart.{Dart}
 use Rattle.graph_state.specs.declared.kind.Side.{Side}
 use Rattle.graph_state.specs.declared.kind.Side.TheVariants.{Before, Behind}
@@ -9,12 +8,12 @@ use Rattle.graph_state.specs.declared.name.ListName.{ListName}
 use Rattle.graph_state.specs.declared.name.ListName.TheVariants.{Nodes, Edges, Out, In}
 use Rattle.graph_state.specs.declared.name.Element.{Element}
 use Rattle.graph_state.specs.declared.name.Element.TheVariants.{Node, Edge, End}
-use Rattle.graph_state.specs.State.{GraphState, front, back, ends_of, source, target, out_list}
+use Rattle.graph_state.specs.State.{GraphState, front, back, ends_of, source, out_list}
 use Rattle.graph_state.specs.Names.{Has, IsOnce, list_of, home, same_dart, same_element, same_list, back_row, behind, before}
 use Rattle.graph_state.specs.Formed.{IsFormed}
 use Rattle.graph_state.specs.Edits.{with_out, enters, back_to_rear, with_edge_before, with_edge_behind}
 use Rattle.graph_state.specs.Beside.{beside, with_edge_beside}
-use Rattle.graph_state.proofs.Has.{has_left, has_right, has_either, has_map}
+use Rattle.graph_state.proofs.Has.{has_left, has_right, has_either}
 use Rattle.graph_state.proofs.Same.{nat_tells, list_tells, element_tells, behind_out, before_out, has_behind, has_before, new_behind, new_before, behind_has, before_has, once_behind, once_before}
 use Rattle.graph_state.proofs.Maps.{put_here, list_put}
 use Rattle.graph_state.proofs.Lists.{one, back_lists, enters_lists}

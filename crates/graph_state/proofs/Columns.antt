@@ -6,7 +6,7 @@ use Rattle.graph_state.specs.declared.name.ListName.{ListName}
 use Rattle.graph_state.specs.declared.name.ListName.TheVariants.{Nodes, Edges, Out, In}
 use Rattle.graph_state.specs.declared.name.Element.{Element}
 use Rattle.graph_state.specs.declared.name.Element.TheVariants.{Node, Edge, End}
-use Rattle.graph_state.specs.State.{GraphState, source, target}
+use Rattle.graph_state.specs.State.{GraphState}
 use Rattle.graph_state.specs.Names.{Has, IsOnce, list_of, IsLive, home, shows}
 use Rattle.graph_state.specs.Formed.{IsFormed, IsLabel, IsPair}
 use Rattle.graph_state.specs.Edits.{unpaired_at, unpaired, paired}

@@ -15,3 +15,5 @@ pub mod Order
 pub mod NodeRemoved
 pub mod Cleared
 pub mod OtherKind
+pub mod Built
+pub mod Labels

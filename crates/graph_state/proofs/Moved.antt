@@ -1,14 +1,13 @@
 -- A state in which an edge that has no reversal goes elsewhere: its lists, and that it is
 -- well-formed.
-use Rattle.std.proofs.Common.{◌≡◌, ℕ, ◌==◌, Bool, true, false, cond, not, ◌&&◌, List, [], ◌∷◌, ◌++◌, filter, None, unwrap_or, refl, sym, ap, subst, ◌∙◌, ◌⊎◌, inl, inr}
+use Rattle.std.proofs.Common.{◌≡◌, ℕ, Bool, true, false, cond, not, ◌&&◌, List, ◌++◌, filter, None, unwrap_or, refl, sym, ap, subst, ◌∙◌, ◌⊎◌, inl, inr}
 use Rattle.std.specs.FinMap as map
 use Rattle.std.specs.FinSet as set
-use Rattle.graph_defs.specs.declared.dart.Dart.{Dart}
 use Rattle.graph_state.specs.declared.name.ListName.{ListName}
 use Rattle.graph_state.specs.declared.name.ListName.TheVariants.{Nodes, Edges, Out, In}
 use Rattle.graph_state.specs.declared.name.Element.{Element}
 use Rattle.graph_state.specs.declared.name.Element.TheVariants.{Node, Edge, End}
-use Rattle.graph_state.specs.State.{GraphState, front, back, source, target, ends_of, shows_node, shows_ends, shows_edge}
+use Rattle.graph_state.specs.State.{GraphState, front, back, ends_of, shows_node, shows_ends, shows_edge}
 use Rattle.graph_state.specs.Names.{Has, IsOnce, list_of, IsLive, home, shows, same_list, back_row}
 use Rattle.graph_state.specs.Formed.{IsFormed}
 use Rattle.graph_state.specs.Parts.{is_dart}

@@ -8,7 +8,7 @@ use Rattle.graph_state.specs.declared.name.ListName.{ListName}
 use Rattle.graph_state.specs.declared.name.ListName.TheVariants.{Nodes, Edges, Out, In}
 use Rattle.graph_state.specs.declared.name.Element.{Element}
 use Rattle.graph_state.specs.declared.name.Element.TheVariants.{Node, Edge, End}
-use Rattle.graph_state.specs.State.{GraphState, source, target, ends_of, out_list, in_list, shows_node}
+use Rattle.graph_state.specs.State.{GraphState, source, target, out_list, in_list}
 use Rattle.graph_state.specs.Names.{Has, IsOnce, list_of, IsLive, home, shows, same_element}
 use Rattle.graph_state.specs.Formed.{IsFormed, IsPair}
 use Rattle.graph_state.specs.Parts.{IsAlone}

@@ -7,13 +7,13 @@ use Rattle.std.specs.FinMap.{FinMap, same_map}
 use Rattle.std.specs.FinSet as set
 use Rattle.std.specs.FinSet.{nat_cmp-IsAntisymmetric, same_set}
 use Rattle.graph_defs.specs.declared.dart.Dart.{Dart}
-use Rattle.graph_state.specs.State.{GraphState, source, target, out_list, in_list}
+use Rattle.graph_state.specs.State.{GraphState}
 use Rattle.graph_state.specs.Names.{Has, IsOnce}
 use Rattle.graph_state.specs.Formed.{IsFormed}
-use Rattle.graph_state.specs.Edits.{darts_without, with_out, unpaired_at, without_edge, without_edges, has_end}
-use Rattle.graph_state.proofs.Has.{truth, not_both, some_or_none, some_same, none_some, has_filter, filter_has, filter_all, filter_none, filter_twice, filter_same, once_filter}
-use Rattle.graph_state.proofs.Same.{nat_tells, same_self}
-use Rattle.graph_state.proofs.Maps.{get_put, get_out, out_here, out_else, in_out}
+use Rattle.graph_state.specs.Edits.{unpaired_at, without_edge, without_edges, has_end}
+use Rattle.graph_state.proofs.Has.{not_both, some_same, none_some, has_filter, filter_has, filter_all, filter_none, filter_twice, filter_same, once_filter}
+use Rattle.graph_state.proofs.Same.{nat_tells}
+use Rattle.graph_state.proofs.Maps.{get_out, out_here, out_else, in_out}
 use Rattle.graph_state.proofs.Removed.{not_equal, unequal, edges_once, formed_without, got_outs, got_ins}
 
 -- a reversal is lost where it or its own edge goes

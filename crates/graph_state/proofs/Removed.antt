@@ -13,7 +13,7 @@ use Rattle.graph_state.specs.State.{GraphState, front, back, source, target, end
 use Rattle.graph_state.specs.Names.{Has, IsOnce, list_of, IsLive, home, shows, back_row}
 use Rattle.graph_state.specs.Formed.{IsFormed, IsPair}
 use Rattle.graph_state.specs.Parts.{is_dart, is_part}
-use Rattle.graph_state.specs.Edits.{edges_without, darts_without, with_out, darts_out, back_list, unpaired, without_edge}
+use Rattle.graph_state.specs.Edits.{edges_without, darts_without, with_out, darts_out, unpaired, without_edge}
 use Rattle.graph_state.proofs.Has.{not_both, some_or_none, none_some, has_map, has_mapped, has_filter, filter_has, filter_all, filter_map_is, once_filter, once_mapped}
 use Rattle.graph_state.proofs.Same.{nat_tells, without_long}
 use Rattle.graph_state.proofs.Maps.{get_put, out_here, out_else, in_out}

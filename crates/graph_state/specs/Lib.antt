@@ -1,4 +1,5 @@
 pub mod Beside
+pub mod Built
 pub mod Edits
 pub mod Formed
 pub mod Names

@@ -144,9 +144,10 @@ visible_out s v = filter (shows_dart s) (out_list s v)
 abbrev pub visible_in : GraphState → ℕ → List Dart
 visible_in s v = filter (shows_dart s) (in_list s v)
 
--- the graph with no nodes and no edges, of which none was ever made
-unfoldable pub empty_graph : Bool → GraphState
-empty_graph directed = record {
+-- the graph of this kind and with these types of labels, with no nodes and no edges, behind so many
+-- that were made
+unfoldable pub new_graph : Bool → List ℕ → List ℕ → ℕ → ℕ → GraphState
+new_graph directed node_type edge_type made_nodes made_edges = record {
   directed = directed;
   nodes = [];
   edges = [];
@@ -158,8 +159,12 @@ empty_graph directed = record {
   edge_labels = map.empty;
   hidden_nodes = set.empty;
   hidden_edges = set.empty;
-  node_type = [];
-  edge_type = [];
-  made_nodes = 0;
-  made_edges = 0;
+  node_type = node_type;
+  edge_type = edge_type;
+  made_nodes = made_nodes;
+  made_edges = made_edges;
 }
+
+-- the graph of which nothing was ever made, and whose labels have the type `void`
+abbrev pub empty_graph : Bool → GraphState
+empty_graph directed = new_graph directed [] [] 0 0

@@ -9,8 +9,8 @@ use Rattle.item_pool.specs.declared.pool.Gone.{Gone}
 use Rattle.item_pool.specs.declared.pool.InsertRefusal.{InsertRefusal}
 use Rattle.item_pool.specs.declared.pool.InsertRefusal.TheVariants.{NoMemory, Spent}
 
--- the list of the triples of key, item and information in the order of the keys, no two of which are equal, and how many
--- serials were made; an item stands as its serial
+-- the list of the triples of key, item and information in the order of the keys, no two of which
+-- are equal, and how many serials were made; an item stands as its serial
 pub record Contents (X : Type 0) : Type 0 where
   pub triples : map.FinMap int_cmp (ℕ × X)
   pub made : ℕ
@@ -20,7 +20,10 @@ module _ {X : Type 0} where
   contents triples made = record { triples = triples; made = made }
 
   abbrev pub contents_code : Coded X → Coded (Contents X)
-  contents_code c = code_by (map.FinMap int_cmp (ℕ × X) × ℕ) (coded× (map.code coded_ℤ (coded× coded_ℕ c)) coded_ℕ) (λ d. (d.triples, d.made)) (λ t. contents t.0 t.1) (λ _. refl)
+  contents_code c =
+      code_by (map.FinMap int_cmp (ℕ × X) × ℕ)
+      (coded× (map.code coded_ℤ (coded× coded_ℕ c)) coded_ℕ) (λ d. (d.triples, d.made))
+      (λ t. contents t.0 t.1) (λ _. refl)
 
   -- the item s has the key k and the information x
   abbrev pub Holds : Contents X → ℕ → ℤ → X → Type 0
@@ -56,9 +59,11 @@ module _ {X : Type 0} where
 
   -- each item was made
   abbrev pub IsWithin : Contents X → Type 0
-  IsWithin d = ((s : ℕ) (k : ℤ) (x : X) → Holds d s k x → (0 < s) × (s ≤ d.made)) × (d.made ≤ MOST_SERIALS)
+  IsWithin d =
+      ((s : ℕ) (k : ℤ) (x : X) → Holds d s k x → (0 < s) × (s ≤ d.made)) × (d.made ≤ MOST_SERIALS)
 
-  -- d with x as the information of the item s, which has the key k and had the information old, is e
+  -- d with x as the information of the item s, which has the key k and had the information old, is
+  -- e
   pub record Changes (d e : Contents X) (s : ℕ) (k : ℤ) (x old : X) : Type 0 where
     pub held : Holds d s k old
     pub alone : IsAlone d s k
@@ -72,9 +77,11 @@ module _ {X : Type 0} where
     pub within : d.made < MOST_SERIALS
     pub after : e ≡ contents (map.insert d.triples k (s, x)) s
 
-  -- a present key k keeps its item s and has x as its information, and an absent one comes in with the next serial
+  -- a present key k keeps its item s and has x as its information, and an absent one comes in with
+  -- the next serial
   abbrev pub Inserts : Contents X → Contents X → ℤ → X → ℕ → Type 0
-  Inserts d e k x s = MatchOption (map.get d.triples k) (Adds d e k x s) (λ t. (s ≡ t.0) × Changes d e s k x t.1)
+  Inserts d e k x s =
+      MatchOption (map.get d.triples k) (Adds d e k x s) (λ t. (s ≡ t.0) × Changes d e s k x t.1)
 
   -- x comes back: spent where each serial was made, and else for want of memory
   abbrev pub Returns : Contents X → X → InsertRefusal X → Type 0

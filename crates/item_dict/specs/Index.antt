@@ -29,7 +29,8 @@ module _ {X : Type 0} where
   found_in live (Some s) = with_inf s (map.get live s)
 
   -- m with the triple of the key k, where there is one
-  abbrev pub with_triple : map.FinMap int_cmp (ℕ × X) → ℤ → Option (ℕ × X) → map.FinMap int_cmp (ℕ × X)
+  abbrev pub with_triple : map.FinMap int_cmp (ℕ × X) → ℤ → Option (ℕ × X)
+      → map.FinMap int_cmp (ℕ × X)
   with_triple m k None = m
   with_triple m k (Some t) = map.insert m k t
 
@@ -39,14 +40,18 @@ module _ {X : Type 0} where
   triples_by f (k ∷ ks) = with_triple (triples_by f ks) k (f k)
 
   -- the triples of the keys of the tree
-  unfoldable pub triples_of : map.FinMap nat_cmp (Entry X) → map.FinMap int_cmp ℕ → map.FinMap int_cmp (ℕ × X)
+  unfoldable pub triples_of : map.FinMap nat_cmp (Entry X) → map.FinMap int_cmp ℕ
+      → map.FinMap int_cmp (ℕ × X)
   triples_of live serials = triples_by (λ k. found_in live (map.get serials k)) (map.keys serials)
 
-  -- an entry with the key k lies under a serial exactly where k has that serial, so that no two entries have one key, and
-  -- there are as many triples as entries
-  pub record IsIndexed (live : map.FinMap nat_cmp (Entry X)) (serials : map.FinMap int_cmp ℕ) : Type 0 where
-    pub listed : (s : ℕ) (k : ℤ) (x : X) → map.get live s ≡ Some (pair k x) → map.get serials k ≡ Some s
-    pub found : (k : ℤ) (s : ℕ) → map.get serials k ≡ Some s → (x : X) × (map.get live s ≡ Some (pair k x))
+  -- an entry with the key k lies under a serial exactly where k has that serial, so that no two
+  -- entries have one key, and there are as many triples as entries
+  pub record IsIndexed (live : map.FinMap nat_cmp (Entry X))
+      (serials : map.FinMap int_cmp ℕ) : Type 0 where
+    pub listed : (s : ℕ) (k : ℤ) (x : X) → map.get live s ≡ Some (pair k x)
+        → map.get serials k ≡ Some s
+    pub found : (k : ℤ) (s : ℕ) → map.get serials k ≡ Some s
+        → (x : X) × (map.get live s ≡ Some (pair k x))
     pub counted : map.len live ≡ map.len (triples_of live serials)
 
   abbrev pub seen : Inside X → Contents X

@@ -26,7 +26,9 @@ module _ {X : Type 0} where
   items pairs made = record { pairs = pairs; made = made }
 
   abbrev pub items_code : Coded X → Coded (Items X)
-  items_code c = code_by (List (ℕ × X) × ℕ) (coded× (coded_list (coded× coded_ℕ c)) coded_ℕ) (λ l. (l.pairs, l.made)) (λ t. items t.0 t.1) (λ _. refl)
+  items_code c =
+      code_by (List (ℕ × X) × ℕ) (coded× (coded_list (coded× coded_ℕ c)) coded_ℕ)
+      (λ l. (l.pairs, l.made)) (λ t. items t.0 t.1) (λ _. refl)
 
   abbrev pub serials : List (ℕ × X) → List ℕ
   serials [] = []
@@ -104,10 +106,12 @@ module _ {X : Type 0} where
 
   -- the serial s is the first, and the last
   abbrev pub MovesToFront : Items X → Items X → ℕ → Type 0
-  MovesToFront l t s = (x : X) × (Holds l s x × (t ≡ items ((s, x) ∷ pairs_without s l.pairs) l.made))
+  MovesToFront l t s =
+      (x : X) × (Holds l s x × (t ≡ items ((s, x) ∷ pairs_without s l.pairs) l.made))
 
   abbrev pub MovesToRear : Items X → Items X → ℕ → Type 0
-  MovesToRear l t s = (x : X) × (Holds l s x × (t ≡ items (pairs_without s l.pairs ++ (s, x) ∷ []) l.made))
+  MovesToRear l t s =
+      (x : X) × (Holds l s x × (t ≡ items (pairs_without s l.pairs ++ (s, x) ∷ []) l.made))
 
   -- the list has s between the two lists of serials
   abbrev pub HasBetween : Items X → ℕ → List ℕ → List ℕ → Type 0
@@ -115,15 +119,25 @@ module _ {X : Type 0} where
 
   -- the item right behind the serial s, and none where s is the last
   abbrev pub IsBehind : Items X → ℕ → Option Item → Type 0
-  IsBehind l s r = HasItem l s × ((before behind : List ℕ) → HasBetween l s before behind → serial_of r ≡ front behind)
+  IsBehind l s r =
+      HasItem l s
+      × ((before behind : List ℕ) → HasBetween l s before behind → serial_of r ≡ front behind)
 
   -- the item right before the serial s, and none where s is the first
   abbrev pub IsBefore : Items X → ℕ → Option Item → Type 0
-  IsBefore l s r = HasItem l s × ((before behind : List ℕ) → HasBetween l s before behind → serial_of r ≡ back before)
+  IsBefore l s r =
+      HasItem l s
+      × ((before behind : List ℕ) → HasBetween l s before behind → serial_of r ≡ back before)
 
   -- the same round the ends: behind the last stands the first
   abbrev pub IsCyclicBehind : Items X → ℕ → Item → Type 0
-  IsCyclicBehind l s it = HasItem l s × ((before behind : List ℕ) → HasBetween l s before behind → Some it.serial ≡ front (behind ++ before ++ s ∷ []))
+  IsCyclicBehind l s it =
+      HasItem l s
+      × ((before behind : List ℕ) → HasBetween l s before behind
+      → Some it.serial ≡ front (behind ++ before ++ s ∷ []))
 
   abbrev pub IsCyclicBefore : Items X → ℕ → Item → Type 0
-  IsCyclicBefore l s it = HasItem l s × ((before behind : List ℕ) → HasBetween l s before behind → Some it.serial ≡ back (s ∷ behind ++ before))
+  IsCyclicBefore l s it =
+      HasItem l s
+      × ((before behind : List ℕ) → HasBetween l s before behind
+      → Some it.serial ≡ back (s ∷ behind ++ before))

@@ -33,11 +33,14 @@ module _ {X : Type 0} where
   node x m = record { value = x; member = m }
 
   -- each member has the tag of its pair, whose node has the pair's value and that member
-  abbrev pub IsListed : map.FinMap nat_cmp ℕ → map.FinMap nat_cmp (Node X) → List ℕ → List (ℕ × X) → Type 0
+  abbrev pub IsListed : map.FinMap nat_cmp ℕ → map.FinMap nat_cmp (Node X) → List ℕ → List (ℕ × X)
+      → Type 0
   IsListed tags live [] [] = Unit {0}
   IsListed tags live [] (p ∷ ps) = ⊥
   IsListed tags live (m ∷ ms) [] = ⊥
-  IsListed tags live (m ∷ ms) (p ∷ ps) = (map.get tags m ≡ Some p.0) × (map.get live p.0 ≡ Some (node p.1 m)) × IsListed tags live ms ps
+  IsListed tags live (m ∷ ms) (p ∷ ps) =
+      (map.get tags m ≡ Some p.0) × (map.get live p.0 ≡ Some (node p.1 m))
+      × IsListed tags live ms ps
 
   -- the pairs that the members stand for
   abbrev pub entry : ℕ → Option (Node X) → List (ℕ × X) → List (ℕ × X)
@@ -58,14 +61,16 @@ module _ {X : Type 0} where
   pub record IsKept (s : RingLists) (head : Option ℕ) (nodes : Contents (Node X)) : Type 0 where
     pub pairs : List (ℕ × X)
     pub listed : IsListed s.tags nodes.live (members s head) pairs
-    pub found : (k : ℕ) (n : Node X) → map.get nodes.live k ≡ Some n → IsIn n.member (members s head) × (map.get s.tags n.member ≡ Some k)
+    pub found : (k : ℕ) (n : Node X) → map.get nodes.live k ≡ Some n
+        → IsIn n.member (members s head) × (map.get s.tags n.member ≡ Some k)
     pub headed : IsHeaded s head
     pub apart : AreApart s
     pub within : IsWithin nodes
     pub few : map.len s.tags ≤ nodes.made
 
   -- the next serial has a node with x, whose member m is loose
-  pub record Makes (s t : RingLists) (p q : Contents (Node X)) (m : ℕ) (it : Item) (x : X) : Type 0 where
+  pub record Makes (s t : RingLists) (p q : Contents (Node X)) (m : ℕ) (it : Item)
+      (x : X) : Type 0 where
     pub room : p.made < MOST_SERIALS
     pub serial : it.serial ≡ p.made + 1
     pub made : q.made ≡ p.made + 1
@@ -77,16 +82,20 @@ module _ {X : Type 0} where
     pub apart : AreApart t
 
   -- for want of memory x comes back, and nothing that a list shows is changed
-  abbrev pub Declines : RingLists → RingLists → Contents (Node X) → Contents (Node X) → X → InsertRefusal X → Type 0
-  Declines s t p q x why = (t ≡ s) × (q.live ≡ p.live) × (q.made ≡ p.made) × Returns (items {X = X} [] p.made) x why
+  abbrev pub Declines : RingLists → RingLists → Contents (Node X) → Contents (Node X) → X
+      → InsertRefusal X → Type 0
+  Declines s t p q x why =
+      (t ≡ s) × (q.live ≡ p.live) × (q.made ≡ p.made) × Returns (items {X = X} [] p.made) x why
 
   -- the head is there, and then the node is made
-  pub record Comes (s t : RingLists) (before after : Option ℕ) (p q : Contents (Node X)) (h m : ℕ) (it : Item) (x : X) : Type 0 where
+  pub record Comes (s t : RingLists) (before after : Option ℕ) (p q : Contents (Node X)) (h m : ℕ)
+      (it : Item) (x : X) : Type 0 where
     pub mid : RingLists
     pub opens : Opens s mid before after h
     pub makes : Makes mid t p q m it x
 
-  pub record Declined (s t : RingLists) (before after : Option ℕ) (p q : Contents (Node X)) (x : X) (why : InsertRefusal X) : Type 0 where
+  pub record Declined (s t : RingLists) (before after : Option ℕ) (p q : Contents (Node X)) (x : X)
+      (why : InsertRefusal X) : Type 0 where
     pub rings : ((t ≡ s) × (after ≡ before)) ⊎ ((h : ℕ) × Opens s t before after h)
     pub live : q.live ≡ p.live
     pub made : q.made ≡ p.made

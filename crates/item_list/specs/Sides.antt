@@ -46,10 +46,17 @@ module _ {X : Type 0} where
   pairs_beside Rear s q ps = pairs_behind s q ps
 
   abbrev pub MovesTo : Side → Items X → Items X → ℕ → Type 0
-  MovesTo side l t s = (x : X) × (Holds l s x × (t ≡ items (with_at side (s, x) (pairs_without s l.pairs)) l.made))
+  MovesTo side l t s =
+      (x : X) × (Holds l s x × (t ≡ items (with_at side (s, x) (pairs_without s l.pairs)) l.made))
 
   abbrev pub IsBeside : Side → Items X → ℕ → Option Item → Type 0
-  IsBeside side l s r = HasItem l s × ((before behind : List ℕ) → HasBetween l s before behind → serial_of r ≡ near side before behind)
+  IsBeside side l s r =
+      HasItem l s
+      × ((before behind : List ℕ) → HasBetween l s before behind
+      → serial_of r ≡ near side before behind)
 
   abbrev pub IsCyclicBeside : Side → Items X → ℕ → Item → Type 0
-  IsCyclicBeside side l s it = HasItem l s × ((before behind : List ℕ) → HasBetween l s before behind → Some it.serial ≡ near_round side s before behind)
+  IsCyclicBeside side l s it =
+      HasItem l s
+      × ((before behind : List ℕ) → HasBetween l s before behind
+      → Some it.serial ≡ near_round side s before behind)

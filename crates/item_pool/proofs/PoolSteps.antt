@@ -184,7 +184,7 @@ module _ {X : Type 0} where
       omega (arith, is.counted, len_remove (live_of p.cells) s f.0 (seen_some p.cells (slot_of p.table) p.made is.table s i e ∙ f.1.1))
 
   -- there are no cells
-  module _ (q : Inside X) (cells : q.cells ≡ []) (slots : (s : ℕ) → slot_of q.table s ≡ None) (free : q.free ≡ 0) (live : q.live ≡ 0) (made : q.made ≡ 0) (next : q.table.next ≡ 1) where
+  module _ (q : Inside X) (cells : q.cells ≡ []) (slots : (s : ℕ) → slot_of q.table s ≡ None) (free : q.free ≡ 0) (live : q.live ≡ 0) (made : q.made ≤ MOST_SERIALS) (next : q.table.next ≡ q.made + 1) where
     none : (i : ℕ) → (cell_at q.cells i).value ≡ None
     none i = ap (λ l. (cell_at l i).value) cells
 
@@ -198,7 +198,7 @@ module _ {X : Type 0} where
         listed = λ i s x l. let twice : None ≡ Some x = sym (none i) ∙ l.1 in cc;
         given = λ s i e. let twice : None ≡ Some i = sym (slots s) ∙ e in cc;
       };
-      next = omega (arith, next, made);
+      next = next;
       chain = record {
         counted = λ i k f. absurd (omega (arith, f.0, empty_long));
         apart = λ i j k f h. absurd (omega (arith, f.0, empty_long));
@@ -207,7 +207,7 @@ module _ {X : Type 0} where
       };
       counted = live ∙ sym (ap (λ l. map.len (live_of l)) cells ∙ map.len-empty nat_cmp X);
       total = omega (arith, empty_long);
-      few = (omega arith, omega arith);
+      few = (omega (arith, live), made);
       short = let z = empty_long in omega arith;
     }
 

@@ -1,4 +1,5 @@
--- Private: how the cells of a pool hold its values, its table finds them, and its free cells are chained.
+-- Private: how the cells of a pool hold its values, its table finds them, and its free cells are
+-- chained.
 use Rattle.std.specs.Prelude.{◌≡◌, ℕ, ◌+◌, ◌<◌, ◌≤◌, List, [], ◌∷◌, get_or, length, Option, Some, None}
 use Rattle.std.specs.Ordering.{nat_cmp}
 use Rattle.std.specs.FinMap as map

@@ -7,9 +7,11 @@ module _ {X : Type 0} where
   abbrev pub blank : Cell X
   blank = record { number = 0; link = 0; value = None }
 
-  -- n free cells from the slot base on, each linked to the next, and the last to the slot next, from which on the
-  -- chain has free cells
+  -- n free cells from the slot base on, each linked to the next, and the last to the slot next,
+  -- from which on the chain has free cells
   unfoldable pub chained : ℕ → ℕ → ℕ → ℕ → List (Cell X)
   chained zero base free next = []
   chained (suc zero) base free next = record { number = free + 1; link = next; value = None } ∷ []
-  chained (suc (suc n)) base free next = record { number = free + suc (suc n); link = base + 1; value = None } ∷ chained (suc n) (base + 1) free next
+  chained (suc (suc n)) base free next =
+      record { number = free + suc (suc n); link = base + 1; value = None }
+      ∷ chained (suc n) (base + 1) free next

@@ -10,7 +10,8 @@ use Rattle.item_pool.specs.declared.pool.Item.{Item}
 use Rattle.item_pool.specs.declared.pool.InsertRefusal.{InsertRefusal}
 use Rattle.item_pool.specs.declared.pool.InsertRefusal.TheVariants.{NoMemory, Spent}
 
--- the live values by their serials, how many serials were made, and how many values can come in with no new memory
+-- the live values by their serials, how many serials were made, and how many values can come in
+-- with no new memory
 pub record Contents (X : Type 0) : Type 0 where
   pub live : map.FinMap nat_cmp X
   pub made : ℕ
@@ -26,7 +27,10 @@ module _ {X : Type 0} where
   contents live made spare = record { live = live; made = made; spare = spare }
 
   abbrev pub contents_code : Coded X → Coded (Contents X)
-  contents_code c = code_by (map.FinMap nat_cmp X × (ℕ × ℕ)) (coded× (map.code coded_ℕ c) (coded× coded_ℕ coded_ℕ)) (λ p. (p.live, (p.made, p.spare))) (λ t. contents t.0 t.1.0 t.1.1) (λ _. refl)
+  contents_code c =
+      code_by (map.FinMap nat_cmp X × (ℕ × ℕ))
+      (coded× (map.code coded_ℕ c) (coded× coded_ℕ coded_ℕ)) (λ p. (p.live, (p.made, p.spare)))
+      (λ t. contents t.0 t.1.0 t.1.1) (λ _. refl)
 
   -- the serial s is live, with the value x
   abbrev pub Holds : Contents X → ℕ → X → Type 0
@@ -42,7 +46,9 @@ module _ {X : Type 0} where
 
   -- each live serial was made
   abbrev pub IsWithin : Contents X → Type 0
-  IsWithin p = ((s : ℕ) (x : X) → map.get p.live s ≡ Some x → (0 < s) × (s ≤ p.made)) × (p.made ≤ MOST_SERIALS)
+  IsWithin p =
+      ((s : ℕ) (x : X) → map.get p.live s ≡ Some x → (0 < s) × (s ≤ p.made))
+      × (p.made ≤ MOST_SERIALS)
 
   -- p with x under the next serial is q
   pub record Inserts (p q : Contents X) (it : Item) (x : X) : Type 0 where

@@ -12,7 +12,8 @@ nobody = record { serial = 0; slot = 0 }
 
 -- the slot of the serial s, where the home is its own
 abbrev pub slot_in : Home → ℕ → Option ℕ
-slot_in home s = (if nat_eq s 0 then None else (if nat_eq home.serial s then Some home.slot else None))
+slot_in home s =
+    (if nat_eq s 0 then None else (if nat_eq home.serial s then Some home.slot else None))
 
 -- the home of the serial s: the place of its last bits
 abbrev pub home_at : List Home → ℕ → Home
@@ -24,7 +25,9 @@ at_home places s = slot_in (home_at places s) s
 
 -- the serial s has a home, and nobody is at home there: who lies there, if any, has another home
 abbrev pub IsFree : List Home → ℕ → Type 0
-IsFree places s = let k = (home_at places s).serial in (0 < length places) × ((k ≢ 0) → (k % length places) ≢ (s % length places))
+IsFree places s =
+    let k = (home_at places s).serial in
+    (0 < length places) × ((k ≢ 0) → (k % length places) ≢ (s % length places))
 
 -- the homes with the serial s in its own
 abbrev pub settled : List Home → ℕ → ℕ → List Home

@@ -1,8 +1,8 @@
 -- Private: many blocks as one list of cells.
 use Rattle.std.specs.Prelude.{◌≡◌, ℕ, zero, suc, ◌+◌, ◌<◌, List, [], ◌∷◌, ◌++◌, length}
 
--- how many elements the block with the number k has, where the first has n, and each other twice as many as the one
--- before
+-- how many elements the block with the number k has, where the first has n, and each other twice as
+-- many as the one before
 abbrev pub block_size : ℕ → ℕ → ℕ
 block_size n zero = n
 block_size n (suc k) = block_size (n + n) k

@@ -225,13 +225,22 @@ impl<T> Pool<T> {
     pub fn new(alloc: Global) -> Pool<T>
         ensures { result ≡ contents map.empty 0 0 }
     {
+        Pool::behind(alloc, 0)
+    }
+
+    /// A pool of no values whose first `made` serials were given, at most `MOST_SERIALS`. It takes
+    /// no memory.
+    pub fn behind(alloc: Global, made: u32) -> Pool<T>
+        requires { made ≤ MOST_SERIALS }
+        ensures { result ≡ contents map.empty made 0 }
+    {
         Pool {
             cells: Cells::new(alloc),
-            table: Table::new(alloc),
+            table: Table::new(alloc, made + 1),
             first: 0,
             free: 0,
             live: 0,
-            made: 0,
+            made,
         }
     }
 

@@ -30,15 +30,15 @@ pub struct Table {
 impl Table {
     ghost use Rattle.item_pool.specs.Table.{slot_of};
 
-    /// A table of no serials, which takes no memory.
-    pub(crate) fn new(alloc: Global) -> Table
+    /// A table of no serials, in which `next` comes in next. It takes no memory.
+    pub(crate) fn new(alloc: Global, next: u32) -> Table
         ensures empty { (s : ℕ) → slot_of result s ≡ None }
-        ensures next { result.next ≡ 1 }
+        ensures next { result.next ≡ next }
     {
         Table {
             homes: Homes::new(alloc),
             others: HashMap::new(alloc),
-            next: 1,
+            next,
             sure: 0,
         }
     }

@@ -11,8 +11,8 @@ use Rattle.item_pool.specs.declared.pool.InsertRefusal.TheVariants.{NoMemory, Sp
 use Rattle.item_pool.specs.Contents.{WhyGone}
 use Rattle.item_queue.specs.Order.{AtMost}
 
--- the priority and the information of each item by its serial, how many serials were made, and how many items can come
--- in with no new memory
+-- the priority and the information of each item by its serial, how many serials were made, and how
+-- many items can come in with no new memory
 pub record Queued (X : Type 0) : Type 0 where
   pub live : map.FinMap nat_cmp (ℤ × X)
   pub made : ℕ
@@ -23,7 +23,10 @@ module _ {X : Type 0} where
   queued live made spare = record { live = live; made = made; spare = spare }
 
   abbrev pub queued_code : Coded X → Coded (Queued X)
-  queued_code c = code_by (map.FinMap nat_cmp (ℤ × X) × (ℕ × ℕ)) (coded× (map.code coded_ℕ (coded× coded_ℤ c)) (coded× coded_ℕ coded_ℕ)) (λ q. (q.live, (q.made, q.spare))) (λ t. queued t.0 t.1.0 t.1.1) (λ _. refl)
+  queued_code c =
+      code_by (map.FinMap nat_cmp (ℤ × X) × (ℕ × ℕ))
+      (coded× (map.code coded_ℕ (coded× coded_ℤ c)) (coded× coded_ℕ coded_ℕ))
+      (λ q. (q.live, (q.made, q.spare))) (λ t. queued t.0 t.1.0 t.1.1) (λ _. refl)
 
   -- the item with the serial s has the priority p and the information x
   abbrev pub Holds : Queued X → ℕ → ℤ → X → Type 0

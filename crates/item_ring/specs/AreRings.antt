@@ -72,11 +72,14 @@ abbrev pub tail : List ℕ → List ℕ
 tail [] = []
 tail (j ∷ js) = js
 
--- the slot comes from the chain js, or is the first that was never used, and holds a node that is its own neighbour
-pub record Claimed (v w : Slots) (first before free : ℕ) (js : List ℕ) (slot value : ℕ) (state : State) : Type 0 where
+-- the slot comes from the chain js, or is the first that was never used, and holds a node that is
+-- its own neighbour
+pub record Claimed (v w : Slots) (first before free : ℕ) (js : List ℕ) (slot value : ℕ)
+    (state : State) : Type 0 where
   pub from : IsIn slot js ⊎ (slot ≡ v.len)
   pub used : slot < w.len
-  pub edit : Edits v w slot (record { next = slot; prev = slot; ring = slot; value = value; state = state })
+  pub edit : Edits v w slot
+      (record { next = slot; prev = slot; ring = slot; value = value; state = state })
   pub chain : IsFree w first free (tail js)
   pub total : w.len + before ≡ v.len + free + 1
   pub within : w.len ≤ w.room

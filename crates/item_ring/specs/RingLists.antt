@@ -15,9 +15,17 @@ pub record RingLists : Type 0 where
 
 abbrev pub lists_code : Coded RingLists
 lists_code = code_by (map.FinMap nat_cmp (List ℕ) × (List ℕ × (map.FinMap nat_cmp ℕ × (ℕ × ℕ))))
-    (coded× (map.code coded_ℕ (coded_list coded_ℕ)) (coded× (coded_list coded_ℕ) (coded× (map.code coded_ℕ coded_ℕ) (coded× coded_ℕ coded_ℕ))))
+    (coded× (map.code coded_ℕ (coded_list coded_ℕ))
+    (coded× (coded_list coded_ℕ) (coded× (map.code coded_ℕ coded_ℕ) (coded× coded_ℕ coded_ℕ))))
     (λ s. (s.rings, (s.loose, (s.tags, (s.spare_heads, s.spare_members)))))
-    (λ p. record { rings = p.0; loose = p.1.0; tags = p.1.1.0; spare_heads = p.1.1.1.0; spare_members = p.1.1.1.1 }) (λ _. refl)
+    (λ p. record {
+      rings = p.0;
+      loose = p.1.0;
+      tags = p.1.1.0;
+      spare_heads = p.1.1.1.0;
+      spare_members = p.1.1.1.1;
+    })
+    (λ _. refl)
 
 -- m is in the list
 abbrev pub IsIn : ℕ → List ℕ → Type 0

@@ -4,7 +4,14 @@ use Rattle.item_ring.specs.RingLists.{RingLists}
 use Rattle.item_ring.specs.AreRings.{AreRings, IsFree, IsStocked}
 
 abbrev pub lists_of : Inside → RingLists
-lists_of a = record { rings = a.seen.view.rings; loose = a.seen.view.loose; tags = a.seen.view.tags; spare_heads = a.spare_heads; spare_members = a.spare_members }
+lists_of a =
+    record {
+      rings = a.seen.view.rings;
+      loose = a.seen.view.loose;
+      tags = a.seen.view.tags;
+      spare_heads = a.spare_heads;
+      spare_members = a.spare_members;
+    }
 
 pub record RingsHold (a : Inside) : Type 0 where
   pub rings : AreRings a.nodes a.seen.view

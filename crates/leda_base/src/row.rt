@@ -55,6 +55,11 @@ impl<T: Drop> Row<T> {
         })
     }
 
+    /// Where the room of the row comes from.
+    pub fn alloc(&self) -> Global {
+        *self.entries.allocator()
+    }
+
     /// The entries of a vector. It takes no memory.
     pub fn from_vec(entries: Vec<T>) -> Row<T>
         ensures { result ≡ entries.items }

@@ -1,4 +1,5 @@
--- What loading and saving do to files, which are bytes under names; nothing, where they aren't told.
+-- What loading and saving do to files, which are bytes under names; nothing, where they aren't
+-- told.
 use Rattle.std.specs.Prelude.{◌≡◌, ◌≢◌, ℕ, ◌<◌, List, length, ⊤, Option, None, Some, IsSomeAnd}
 
 -- the bytes of the file of that name, if there is one

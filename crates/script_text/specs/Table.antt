@@ -25,7 +25,8 @@ pub record Entry : Type 0 where
 
 -- the table, which is the constant of the code
 abbrev pub table : List Entry
-table = map (λ row. record { spelling = row.0.now; word = row.1; forms = row.2.now; memory = row.3 })
+table = map
+    (λ row. record { spelling = row.0.now; word = row.1; forms = row.2.now; memory = row.3 })
     TABLE
 
 -- the token isn't of another form
