@@ -1,0 +1,14 @@
+pub mod Passes
+pub mod Lines
+pub mod Trims
+pub mod Loops
+pub mod Pairs
+pub mod Fields
+pub mod Labels
+pub mod Numbers
+pub mod Standing
+pub mod Steps
+pub mod Complete
+pub mod Sound
+pub mod Again
+pub mod Meanings

@@ -1,0 +1,10 @@
+use Rattle.graph_text.proofs.Lines.{first-ended, only-line}
+use Rattle.graph_text.proofs.line.split_line.Goals as goal
+
+pub returns-in-Some-clause-lines : goal.returns-in-Some-clause-lines
+returns-in-Some-clause-lines c =
+    first-ended c.args.bytes.now c.in-Some.end c.in-Some.ensures.0 c.in-Some.ensures.1
+
+pub returns-in-None-clause-lines : goal.returns-in-None-clause-lines
+returns-in-None-clause-lines c =
+    only-line c.args.bytes.now c.requires c.in-None.ensures
