@@ -29,6 +29,10 @@ fn answers_each_command(rt: HostRuntime) -> Result<(), Fail> {
             "node\nedge n1 n1\nedge n2 n3\nedge n1 n3\nedge n1 n1\n",
             "= n1\n= e1\n! unknown n2\n! unknown n3\n= e2\n",
         ),
+        (
+            "load nowhere\nload\ncount\n",
+            "! absent\n! syntax 5\n= 0 0\n",
+        ),
         ("\n # a comment\n\t\r\nnode\r\n", "= n1\n"),
         (
             "node n1\nvertex\nedge\nedge n0 n1\nedge n1 \n",

@@ -3,3 +3,4 @@ pub mod Cleared
 pub mod Reaches
 pub mod Named
 pub mod Looks
+pub mod FileNames

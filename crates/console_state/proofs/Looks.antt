@@ -1,5 +1,5 @@
 -- What looks at neighbours find, as replies.
-use Rattle.std.proofs.Common.{◌≡◌, ℕ, true, false, List, [], ◌∷◌, ◌++◌, if◌then◌else◌, map, option_map, refl, sym, ap, subst, ◌∙◌, ◌⊎◌, inl, inr}
+use Rattle.std.proofs.Common.{◌≡◌, ℕ, true, false, List, [], ◌∷◌, ◌++◌, if◌then◌else◌, map, option_map, refl, sym, ap, subst, ◌∙◌, inl, inr}
 use Rattle.std.specs.Prelude.{Bool, Option, Some, None, cond, unwrap_or}
 use Rattle.std.specs.FinMap as fin
 use Rattle.leda_base.specs.declared.ItemName.TheVariants as items
@@ -10,7 +10,7 @@ use Rattle.graph_state.specs.declared.name.Element.{Element}
 use Rattle.graph_state.specs.declared.name.Element.TheVariants.{Node, Edge, End}
 use Rattle.graph_state.specs.State.{GraphState, front, source, out_list, visible_out, shows_dart, shows_edge}
 use Rattle.graph_state.specs.Reversals.{if_shown, visible_reversal}
-use Rattle.graph_state.specs.Names.{Has, same_dart, first_of, last_of}
+use Rattle.graph_state.specs.Names.{Has, first_of, last_of}
 use Rattle.graph_state.specs.Formed.{IsFormed}
 use Rattle.graph_state.specs.Refusals.{AreVisible}
 use Rattle.graph_state.proofs.Same.{dart_tells}

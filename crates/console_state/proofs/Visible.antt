@@ -1,6 +1,6 @@
 -- What it says of the graph that items stand as a command asks.
-use Rattle.std.proofs.Common.{◌≡◌, ℕ, ◌<◌, ◌≤◌, Bool, true, false, not, ◌==◌, ◌||◌, ◌&&◌, List, [], ◌∷◌, length, refl, sym, ap, subst, ◌∙◌, ◌⊎◌, inl, inr, arith}
-use Rattle.std.specs.List.{list_any, list_all}
+use Rattle.std.proofs.Common.{◌≡◌, ℕ, ◌<◌, ◌≤◌, Bool, true, false, not, ◌==◌, ◌||◌, ◌&&◌, List, [], ◌∷◌, length, refl, sym, subst, ◌⊎◌, inl, inr, arith}
+use Rattle.std.specs.List.{list_all}
 use Rattle.std.proofs.lemmas.Bool.{leb-true}
 use Rattle.std.proofs.lemmas.Bool.Decides.{nat_tests}
 use Rattle.std.specs.Bool.{MatchBool}
@@ -16,7 +16,7 @@ use Rattle.graph_state.specs.declared.refusal.LookRefusal.TheVariants as look
 use Rattle.graph_state.specs.State.{GraphState, visible_nodes, shows_node, shows_edge}
 use Rattle.graph_state.specs.Names.{Has}
 use Rattle.graph_state.specs.Formed.{IsLabel}
-use Rattle.graph_state.specs.Refusals.{IsThere, IsGone, AreVisible, RefusesLook, shows_item}
+use Rattle.graph_state.specs.Refusals.{IsThere, IsGone, AreVisible, RefusesLook}
 use Rattle.graph_state.proofs.Same.{nat_tells}
 use Rattle.graph_state.proofs.Has.{filter_has}
 use Rattle.graph_state.proofs.Labels.{no_line}

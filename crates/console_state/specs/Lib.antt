@@ -4,6 +4,7 @@ pub mod Look
 pub mod Views
 pub mod Order
 pub mod Query
+pub mod Files
 pub mod Step
 pub mod Obstacles
 pub mod Clear

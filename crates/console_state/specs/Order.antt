@@ -13,7 +13,7 @@ use Rattle.script_text.specs.declared.form.Sight.TheVariants as sights
 use Rattle.script_text.specs.declared.word.LookWord.TheVariants as looks
 use Rattle.script_text.specs.declared.word.QueryWord.TheVariants as queries
 use Rattle.script_text.specs.declared.word.Word.{Word}
-use Rattle.script_text.specs.declared.word.Word.TheVariants.{Edit, Look, Query}
+use Rattle.script_text.specs.declared.word.Word.TheVariants.{Edit, Look, File, Query}
 use Rattle.script_text.specs.Said.{Said}
 use Rattle.script_text.specs.Table.{forms_of}
 use Rattle.reply_text.specs.declared.refusal.ObjectName.TheVariants as objects
@@ -105,6 +105,7 @@ asks_directed (Edit word) = false
 asks_directed (Look looks.InEdges) = true
 asks_directed (Look looks.FaceSucc) = true
 asks_directed (Look word) = false
+asks_directed (File word) = false
 asks_directed (Query queries.Reach) = true
 
 -- the graph is of the wrong kind

@@ -1,8 +1,10 @@
--- Private: what the graph and looks refuse, as it is replied.
+-- Private: what the graph, a store and looks refuse, as it is replied.
 use Rattle.std.specs.Prelude.{◌≡◌, ◌⊎◌, true, List, Some, Err}
 use Rattle.item_pool.specs.declared.pool.Gone.{Gone}
 use Rattle.item_pool.specs.declared.pool.Gone.TheVariants.{Dead, Unknown}
 use Rattle.leda_base.specs.declared.ItemName.{ItemName}
+use Rattle.leda_edge.specs.declared.store.LoadFault.{LoadFault}
+use Rattle.leda_edge.specs.declared.store.LoadFault.TheVariants as loads
 use Rattle.graph_state.specs.declared.refusal.EditRefusal.{EditRefusal}
 use Rattle.graph_state.specs.declared.refusal.EditRefusal.TheVariants as edits
 use Rattle.graph_state.specs.State.{GraphState}
@@ -33,6 +35,13 @@ edit_refusal edits.FullNodes = refusals.FullNodes
 edit_refusal edits.FullEdges = refusals.FullEdges
 edit_refusal edits.Spent = refusals.Spent
 edit_refusal edits.NoMemory = refusals.Memory
+
+-- why a file isn't loaded
+abbrev pub load_refusal : LoadFault → Refusal
+load_refusal loads.Absent = refusals.Absent
+load_refusal loads.TooBig = refusals.Big
+load_refusal loads.Failed = refusals.Store
+load_refusal loads.NoMemory = refusals.Memory
 
 -- a look lacks memory, which it is free to, or is refused as its row says
 abbrev pub IsLookRefused : LookWord → List Arg → GraphState → Refusal → Type 0

@@ -1,5 +1,5 @@
 -- Private: the net that a session keeps, and what the graph refuses, as replies.
-use Rattle.std.specs.Prelude.{◌≡◌, ℕ, List}
+use Rattle.std.specs.Prelude.{◌≡◌}
 use Rattle.graph_defs.specs.Net.{IsValid}
 use Rattle.graph_state.specs.State.{GraphState}
 use Rattle.hide_restore.specs.declared.shown.Shown.{Shown}

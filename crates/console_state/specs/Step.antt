@@ -6,7 +6,7 @@ use Rattle.script_text.specs.declared.word.EditWord.{EditWord}
 use Rattle.script_text.specs.declared.word.LookWord.{LookWord}
 use Rattle.script_text.specs.declared.word.QueryWord.{QueryWord}
 use Rattle.script_text.specs.declared.word.Word.{Word}
-use Rattle.script_text.specs.declared.word.Word.TheVariants.{Edit, Look, Query}
+use Rattle.script_text.specs.declared.word.Word.TheVariants.{Edit, Look, File, Query}
 use Rattle.script_text.specs.Said.{Said}
 use Rattle.script_text.specs.Table.{may_lack_memory}
 use Rattle.reply_text.specs.declared.refusal.Refusal.{Refusal}
@@ -15,6 +15,7 @@ use Rattle.reply_text.specs.Outcome.{Outcome, done, refused, LacksMemory, IsQuie
 use Rattle.console_state.specs.State.{State, on_graph}
 use Rattle.console_state.specs.Graph.{graph_edited}
 use Rattle.console_state.specs.Look.{Told, graph_looked}
+use Rattle.console_state.specs.Files.{Exchanges}
 use Rattle.console_state.specs.Order.{first_refusal}
 use Rattle.console_state.specs.Query.{Answers}
 
@@ -64,6 +65,7 @@ pub record IsRefusedBy (refusal : Refusal) (s : State) (f : Stored)
 abbrev pub Does : Word → List Arg → State → Stored → Reply → State → Stored → Type 0
 Does (Edit word) args s f reply s' f' = Edits word args s f reply s' f'
 Does (Look word) args s f reply s' f' = LooksAt word args s f reply s' f'
+Does (File word) args s f reply s' f' = Exchanges word args s f reply s' f'
 Does (Query word) args s f reply s' f' = Asks word args s f reply s' f'
 
 -- the refusal, if there is one, or else what the command does

@@ -35,10 +35,10 @@ use std::marker::Model;
 /// The state of a session.
 #[derive(Drop)]
 pub struct Session {
-    alloc: Global,
-    graph: Graph,
+    pub(crate) alloc: Global,
+    pub(crate) graph: Graph,
     /// The net of the visible graph, from a query to the next edit.
-    shown: Option<Shown>,
+    pub(crate) shown: Option<Shown>,
 }
 
 impl Model for Session {
@@ -94,6 +94,7 @@ impl Session {
         match command.word() {
             Word::Edit(word) => self.edit(word, command.args()),
             Word::Look(word) => self.look(word, command.args()),
+            Word::File(word) => self.exchange(word, command.args(), files),
             Word::Query(word) => self.query(word, command.args()),
         }
     }

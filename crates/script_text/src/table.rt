@@ -6,7 +6,7 @@ ghost use Rattle.script_text.specs.Table.{table, entry_of as the_entry, may_begi
 use crate::argument::Misfit;
 use crate::form::{Form, Sight, read_arg};
 use crate::token::Token;
-use crate::word::{EditWord, LookWord, QueryWord, Word};
+use crate::word::{EditWord, FileWord, LookWord, QueryWord, Word};
 
 /// Whether running a command takes memory, so that it may be answered by want of memory.
 #[derive(Clone, Copy, Debug, PartialEq, Eq)]
@@ -40,6 +40,8 @@ const LABEL: Form = Form::OptionalLabel;
 
 const NEW_LABEL: Form = Form::Label;
 
+const FILE: Form = Form::File;
+
 /// Writes the rows of a table, one a line: the spelling, the word, what is asked of each argument,
 /// and the memory.
 macro_rules! rows {
@@ -52,7 +54,7 @@ macro_rules! rows {
 pub(crate) use rows;
 
 /// The table. All that is said of a command before it runs is said here.
-pub(crate) const TABLE: [Entry; 37] = rows! {
+pub(crate) const TABLE: [Entry; 38] = rows! {
     "node"             Edit(EditWord::Node)           [LABEL]              Taken;
     "edge"             Edit(EditWord::Edge)           [NODE, NODE, LABEL]  Taken;
     "edge_before"      Edit(EditWord::EdgeBefore)     [EDGE, NODE, LABEL]  Taken;
@@ -73,6 +75,7 @@ pub(crate) const TABLE: [Entry; 37] = rows! {
     "restore_node"     Edit(EditWord::RestoreNode)    [LIVE_NODE]          NotTaken;
     "restore_all"      Edit(EditWord::RestoreAll)     []                   NotTaken;
     "restore_edge"     Edit(EditWord::RestoreEdge)    [LIVE_EDGE]          NotTaken;
+    "load"             File(FileWord::Load)           [FILE]               Taken;
     "count"            Look(LookWord::Count)          []                   NotTaken;
     "nodes"            Look(LookWord::Nodes)          []                   TakenByReply;
     "edges"            Look(LookWord::Edges)          []                   TakenByReply;

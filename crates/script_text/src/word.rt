@@ -46,6 +46,12 @@ pub enum LookWord {
     GetLabel,
 }
 
+/// The word of a command that reads or writes a file.
+#[derive(Clone, Copy, Debug, PartialEq, Eq)]
+pub enum FileWord {
+    Load,
+}
+
 /// The word of a command that asks about the graph.
 #[derive(Clone, Copy, Debug, PartialEq, Eq)]
 pub enum QueryWord {
@@ -57,5 +63,6 @@ pub enum QueryWord {
 pub enum Word {
     Edit(EditWord),
     Look(LookWord),
+    File(FileWord),
     Query(QueryWord),
 }

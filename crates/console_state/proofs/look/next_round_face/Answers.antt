@@ -1,4 +1,4 @@
-use Rattle.std.proofs.Common.{ap, sym, subst, ◌∙◌}
+use Rattle.std.proofs.Common.{ap, sym, ◌∙◌}
 use Rattle.console_state.specs.Look.{tells}
 use Rattle.console_state.proofs.Looks.{face_line}
 use Rattle.console_state.proofs.look.next_round_face.Goals as goal

@@ -1,7 +1,6 @@
-use Rattle.std.proofs.Common.{◌≤◌, length, arith}
+use Rattle.std.proofs.Common.{arith}
 use Rattle.std.proofs.lemmas.Bool.Decides.{nat_tests}
 use Rattle.std.proofs.lemmas.Bool.{OnTrue_at, OnTrue_from}
-use Rattle.console_state.specs.Clear.{AreClear}
 use Rattle.console_state.proofs.Cleared.{clear-more, clear-none}
 use Rattle.console_state.proofs.session.Session.+are_clear.Goals as goal
 

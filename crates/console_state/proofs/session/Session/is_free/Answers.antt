@@ -1,8 +1,7 @@
-use Rattle.std.proofs.Common.{◌≡◌, sym, ap, ◌∙◌}
-use Rattle.std.specs.Prelude.{Option, None, Some, is_some, not, true, option_map}
+use Rattle.std.proofs.Common.{sym, ap, ◌∙◌}
+use Rattle.std.specs.Prelude.{option_map}
 use Rattle.std.proofs.lemmas.Bool.{OnTrue_at, OnTrue_from}
 use Rattle.console_state.specs.Obstacles.{refusal_of}
-use Rattle.console_state.specs.Order.{wrong_kind}
 use Rattle.console_state.proofs.Cleared.{free, none-there}
 use Rattle.console_state.proofs.session.Session.is_free.Goals as goal
 
