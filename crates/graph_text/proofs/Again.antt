@@ -75,7 +75,8 @@ labelled-stands front label one line first mark =
     list_all-append (λ b. not (b == 10)) label (codes "}|") ∙ rw line refl in
     let whole : is_one_line (front ++ label_text label) ≡ true =
     list_all-append (λ b. not (b == 10)) front (label_text label) ∙ rw (one, closed) refl in
-    let cut : front ++ label_text label ≡ (front ++ (codes "|{" ++ label ++ codes "}")) ++ 124 ∷ [] =
+    let cut : front ++ label_text label
+    ≡ (front ++ (codes "|{" ++ label ++ codes "}")) ++ 124 ∷ [] =
     ap (λ (w : List ℕ). front ++ w) (sym (append_assoc (codes "|{" ++ label) (codes "}")
     (124 ∷ [])))
     ∙ sym (append_assoc front (codes "|{" ++ label ++ codes "}") (124 ∷ [])) in

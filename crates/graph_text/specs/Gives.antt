@@ -1,4 +1,4 @@
--- Private: what a function of the code answers, in the words of the reading.
+-- What a function of the code answers, in the words of the reading.
 use Rattle.std.specs.Prelude.{◌≡◌, ℕ, List, [], ◌∷◌, Result, Ok, Err}
 use Rattle.graph_defs.specs.declared.plain.PlainEdge.{PlainEdge}
 use Rattle.graph_text.specs.declared.fault.Fault.{Fault}

@@ -7,12 +7,9 @@ use crate::fault::{Fault, TextRefusal};
 use crate::head::count;
 use crate::line::{Line, Lines};
 use crate::part::{label_of, number_in, split_field};
-use graph_defs::{PlainEdge, TextKind};
+use graph_defs::{ARC_LIMIT, PlainEdge, TextKind};
 use leda_base::{NoMemory, Row};
 use std::alloc::Global;
-
-/// How many edges a graph may have.
-const EDGE_LIMIT: u32 = 400_000;
 
 /// How many bytes a label may have.
 const LABEL_LIMIT: usize = 60_000;
@@ -61,7 +58,7 @@ pub(crate) fn read_edges(
     ensures read { GivesOn edges_seen result lines.new (edges_of nodes void lines.old) }
     ensures lengths { IfOk result (λ edges. length edges.edges ≡ length edges.lines) }
 {
-    let edges = count(EDGE_LIMIT, lines.want_line()?)?;
+    let edges = count(ARC_LIMIT, lines.want_line()?)?;
     let sizes = Sizes { nodes, edges, void };
     read_edge_lines(alloc, sizes, lines)
 }
@@ -119,10 +116,7 @@ fn end(nodes: u32, line: u32, field: &[u8]) -> Result<u32, Fault>
 {
     match number_in(1, nodes, field) {
         Some(number) => Ok(number - 1),
-        None => Err(Fault {
-            kind: TextKind::Ends,
-            line,
-        }),
+        None => Err(Fault::at(line, TextKind::Ends)),
     }
 }
 
@@ -134,10 +128,7 @@ fn reversal(edges: u32, line: u32, field: &[u8]) -> Result<Option<u32>, Fault>
 {
     match number_in(0, edges, field) {
         Some(number) => Ok(number.checked_sub(1)),
-        None => Err(Fault {
-            kind: TextKind::Reversal,
-            line,
-        }),
+        None => Err(Fault::at(line, TextKind::Reversal)),
     }
 }
 
@@ -147,22 +138,13 @@ fn label(void: bool, line: u32, bytes: &[u8]) -> Result<&[u8], Fault>
     ensures { Reads (λ label. label.now) result (label_in void line bytes.now) }
 {
     let Some(label) = label_of(bytes) else {
-        return Err(Fault {
-            kind: TextKind::Label,
-            line,
-        });
+        return Err(Fault::at(line, TextKind::Label));
     };
     if label.len() > LABEL_LIMIT {
-        return Err(Fault {
-            kind: TextKind::Limit,
-            line,
-        });
+        return Err(Fault::at(line, TextKind::Limit));
     }
     if void && !label.is_empty() {
-        return Err(Fault {
-            kind: TextKind::Label,
-            line,
-        });
+        return Err(Fault::at(line, TextKind::Label));
     }
     Ok(label)
 }

@@ -14,6 +14,14 @@ pub(crate) struct Fault {
     pub line: u32,
 }
 
+impl Fault {
+    pub fn at(line: u32, kind: TextKind) -> Self
+        ensures { result ≡ record { kind = kind; line = line } }
+    {
+        Fault { kind, line }
+    }
+}
+
 /// Why a text isn't read as a graph.
 #[derive(Clone, Copy, Debug, PartialEq, Eq, Error)]
 pub enum TextRefusal {

@@ -1,15 +1,12 @@
 //! What comes before the nodes of a graph.
 ghost use Rattle.std.specs.Prelude.{◌≡◌, ◌≤◌, true, IfOk};
-ghost use Rattle.graph_text.specs.Reading.{header_in, type_in, direction_in, count_in, nodes_behind, way_of, head_of};
+ghost use Rattle.graph_text.specs.Reading.{header_in, type_in, direction_in, count_in, way_of, head_of};
 ghost use Rattle.graph_text.specs.Gives.{line_seen, head_seen, way_seen, Reads, ReadsOn};
 
 use crate::fault::Fault;
 use crate::line::{Line, Lines};
 use crate::part::natural_of;
-use graph_defs::TextKind;
-
-/// How many nodes a graph may have.
-const NODE_LIMIT: u32 = 100_000;
+use graph_defs::{NODE_LIMIT, TextKind};
 
 /// How many bytes the name of a type may have.
 const TYPE_LIMIT: usize = 255;

@@ -24,13 +24,9 @@ pub(crate) struct Line<'a> {
 impl Line<'_> {
     /// The fault of this line.
     pub fn fault(&self, kind: TextKind) -> Fault
-        ensures kind { result.kind ≡ kind }
-        ensures line { result.line ≡ self.now.number }
+        ensures { result ≡ record { kind = kind; line = self.now.number } }
     {
-        Fault {
-            kind,
-            line: self.number,
-        }
+        Fault::at(self.number, kind)
     }
 }
 
@@ -115,10 +111,7 @@ impl<'a> Lines<'a> {
     {
         match self.next_line()? {
             Some(line) => Ok(line),
-            None => Err(Fault {
-                kind: TextKind::Truncated,
-                line: self.number,
-            }),
+            None => Err(Fault::at(self.number, TextKind::Truncated)),
         }
     }
 

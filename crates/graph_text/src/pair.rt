@@ -18,10 +18,7 @@ pub(crate) fn check_pairs(edges: &[PlainEdge], lines: &[u32]) -> Result<(), Faul
 {
     match first_unpaired(edges, lines) {
         None => Ok(()),
-        Some(line) => Err(Fault {
-            kind: TextKind::Reversal,
-            line,
-        }),
+        Some(line) => Err(Fault::at(line, TextKind::Reversal)),
     }
 }
 

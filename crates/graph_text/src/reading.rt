@@ -23,7 +23,8 @@ pub const TEXT_LIMIT: usize = 268_435_456;
 /// [`TextRefusal::At`] exactly where the text stands for no graph: the first fault in it.
 pub fn read(alloc: Global, text: &[u8]) -> Result<PlainGraph, TextRefusal>
     requires { length text.now ≤ TEXT_LIMIT }
-    ensures { Answers text.now result }
+    ensures right { Answers text.now result }
+    ensures exact { Gives (λ g. g) result (reading_of text.now) }
 {
     read_lines(alloc, text)
 }

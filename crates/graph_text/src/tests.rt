@@ -8,7 +8,7 @@ use std::alloc::Global;
 use std::test::Fail;
 
 const GIVEN: &[u8] =
-    b"# made by hand\r\nLEDA.GRAPH\r\ndouble\r\nvoid\r\n2\r\n|{a}|b}|\r\n|{2.5}|\r\n1\r\n2 1 0 |{}|\r\n";
+    b"# by hand\r\nLEDA.GRAPH\r\ndouble\r\nvoid\r\n2\r\n|{a}|b}|\r\n|{2.5}|\r\n1\r\n2 1 0 |{}|\r\n";
 
 const SAVED: &[u8] = b"LEDA.GRAPH\ndouble\nvoid\n-1\n2\n|{a}|b}|\n|{2.5}|\n1\n2 1 0 |{}|\n";
 

@@ -10,7 +10,8 @@ returns-in_err-line c =
     let r = c.from_residual-in_err-line in
     let p = err_from_is_err_and r.result r.ensures.1 in
     rw (p.1, p.2) (no_line (node_in c.args.void) c.loop.nodes c.args.count c.loop.counter
-    c.loop.lines c.in_err-line.field-0.0 (many_of (node_in c.args.void) c.args.count c.args.lines.now)
+    c.loop.lines c.in_err-line.field-0.0
+    (many_of (node_in c.args.void) c.args.count c.args.lines.now)
     c.loop-test.true c.in_err-line.ensures c.loop.invariant)
 
 pub returns-in_err-label : goal.returns-in_err-label
