@@ -10,7 +10,7 @@ use Rattle.graph_state.specs.declared.name.Element.TheVariants.{Node, Edge, End}
 use Rattle.graph_state.specs.State.{GraphState, new_graph}
 use Rattle.graph_state.specs.Names.{list_of}
 use Rattle.graph_state.specs.Names as names
-use Rattle.graph_state.specs.Formed.{IsFormed}
+use Rattle.graph_state.specs.Formed.{IsFormed, IsKeptType}
 use Rattle.graph_state.specs.Edits.{cleared}
 use Rattle.graph_state.proofs.Cleared.{lists_empty, nothing_live, formed_cleared}
 use Rattle.graph_lists.specs.Named.{Lists, head_at, place_at, list_at, nothing_named}
@@ -43,9 +43,9 @@ module _ (directed : Bool) (node_type edge_type : List ℕ) (made_nodes made_edg
   no_places (Edge e) = sym (ap (option_map (λ (c : EdgeCell). c.place)) (get-empty nat_cmp e))
   no_places (End d) = sym (ap (option_map (end_place d.back)) (get-empty nat_cmp d.edge))
 
-  pub kept_none : (t : Lists) (p : NodeCells) (q : EdgeCells) → t.named ≡ nothing_named → (t.heads ≡ 0) × (t.members ≡ 0) → p ≡ map.empty → q ≡ map.empty → (made_nodes ≤ 16777215) × (made_edges ≤ 16777215) → IsKept none t None p q
+  pub kept_none : (t : Lists) (p : NodeCells) (q : EdgeCells) → t.named ≡ nothing_named → (t.heads ≡ 0) × (t.members ≡ 0) → p ≡ map.empty → q ≡ map.empty → (made_nodes ≤ 16777215) × (made_edges ≤ 16777215) → IsKeptType node_type × IsKeptType edge_type → IsKept none t None p q
   unfolding new_graph
-  kept_none t p q named none_there pe qe made =
+  kept_none t p q named none_there pe qe made types =
       let plen : map.len p ≡ 0 = ap map.len pe ∙ len-empty nat_cmp NodeCell in
       let qlen : map.len q ≡ 0 = ap map.len qe ∙ len-empty nat_cmp EdgeCell in
       record {
@@ -60,6 +60,6 @@ module _ (directed : Bool) (node_type edge_type : List ℕ) (made_nodes made_edg
         few_heads = omega (arith, none_there.0);
         few_members = omega (arith, none_there.1);
         counted = (plen, qlen);
-        formed = subst IsFormed none_cleared (formed_cleared none made);
+        formed = subst IsFormed none_cleared (formed_cleared none made types);
         rise = tt;
       }

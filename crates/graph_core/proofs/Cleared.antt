@@ -50,6 +50,6 @@ module _ (s : GraphState) (t : Lists) (top : Option Heads) (p : NodeCells) (q : 
     few_heads = k.few_heads;
     few_members = k.few_members;
     counted = (k.counted.0 ∙ ap length none, k.counted.1 ∙ ap length (none_has s.edges no_edge));
-    formed = formed_cleared s k.formed.made;
+    formed = formed_cleared s k.formed.made k.formed.types;
     rise = tt;
   }

@@ -10,7 +10,7 @@ use Rattle.graph_state.specs.declared.name.Element.{Element}
 use Rattle.graph_state.specs.declared.name.Element.TheVariants.{Node, Edge, End}
 use Rattle.graph_state.specs.State.{GraphState, front, back, ends_of, source, target, out_list, in_list, shows_ends, shows_edge}
 use Rattle.graph_state.specs.Names.{Has, IsOnce, list_of, IsLive, home, shows, same_list, back_row}
-use Rattle.graph_state.specs.Formed.{IsFormed, IsLabel, IsPair}
+use Rattle.graph_state.specs.Formed.{IsFormed, IsKeptType, IsLabel, IsPair}
 use Rattle.graph_state.specs.Edits.{with_edge, with_node}
 use Rattle.graph_state.proofs.Has.{truth, not_both, some_same, has_left, has_right, has_either, has_last, once_push, has_map, none_has}
 use Rattle.graph_state.proofs.Same.{nat_tells, list_tells}
@@ -192,6 +192,7 @@ module _ (s : GraphState) (f : IsFormed s) where
           ];
           few = (subst (λ ns. length ns ≤ 100000) (sym a.nodes) f.few.0, omega (arith, long, few));
           made = (subst (λ m. m ≤ 16777215) (sym a.made_nodes) f.made.0, omega (arith, a.made_edges, more));
+          types = (subst IsKeptType (sym a.types.0) f.types.0, subst IsKeptType (sym a.types.1) f.types.1);
         }
 
   -- the list of a dart is that of a listed node
@@ -383,4 +384,5 @@ module _ (s : GraphState) (f : IsFormed s) (label : List ℕ) where
     edge_labels = f.edge_labels;
     few = (omega (arith, length-append s.nodes ((s.made_nodes + 1) ∷ []), few), f.few.1);
     made = (omega (arith, more), f.made.1);
+    types = f.types;
   }

@@ -1,5 +1,5 @@
 -- What stands in a graph while the parts of a plain graph come in.
-use Rattle.std.proofs.Common.{◌≡◌, ℕ, zero, suc, ◌+◌, ◌<◌, ◌≤◌, true, false, cond, not, List, [], ◌∷◌, ◌++◌, length, Option, Some, None, refl, sym, ap, subst, ◌∙◌, inl, arith}
+use Rattle.std.proofs.Common.{◌≡◌, ℕ, zero, suc, ◌+◌, ◌<◌, ◌≤◌, Bool, true, false, cond, not, List, [], ◌∷◌, ◌++◌, length, Option, Some, None, refl, sym, ap, subst, ◌∙◌, inl, inr, arith}
 use Rattle.std.specs.Prelude.{slice_get, nat_lt}
 use Rattle.std.specs.FinMap as map
 use Rattle.std.specs.FinSet as set
@@ -8,13 +8,23 @@ use Rattle.std.specs.Ordering.{nat_cmp}
 use Rattle.leda_base.specs.declared.name.ItemName.TheVariants as names
 use Rattle.graph_defs.specs.declared.plain.PlainEdge.{PlainEdge}
 use Rattle.graph_defs.specs.declared.plain.PlainGraph.{PlainGraph}
+use Rattle.graph_defs.specs.Plain.{IsTypeName, is_void}
 use Rattle.graph_state.specs.State.{GraphState, new_graph}
 use Rattle.graph_state.specs.Names.{Has}
 use Rattle.graph_state.specs.Edits.{with_node, with_edge, paired}
 use Rattle.graph_state.specs.Refusals.{AreVisible}
-use Rattle.graph_state.specs.Built.{bare, with_nodes, paired_back, with_plain_edge, with_plain_edges}
+use Rattle.graph_state.specs.Formed.{IsKeptType}
+use Rattle.graph_state.specs.Built.{kept_type, bare, with_nodes, paired_back, with_plain_edge, with_plain_edges}
 use Rattle.graph_state.proofs.Has.{has_left, has_right, some_same, none_some}
 use Rattle.graph_state.proofs.Maps.{put_here, put_else}
+
+-- the type of a file is kept as a state has it
+kept_if : (b : Bool) (name : List ℕ) → is_void name ≡ b → IsTypeName name → IsKeptType (cond b [] name)
+kept_if true name void is = inl refl
+kept_if false name void is = inr (is, void)
+
+pub type_kept : (name : List ℕ) → IsTypeName name → IsKeptType (kept_type name)
+type_kept name is = kept_if (is_void name) name refl is
 
 -- one more comes last
 pub nodes_last : (labels : List (List ℕ)) (label : List ℕ) (s : GraphState) → with_nodes (labels ++ label ∷ []) s ≡ with_node label (with_nodes labels s)

@@ -12,7 +12,7 @@ use Rattle.graph_state.specs.declared.name.Element.{Element}
 use Rattle.graph_state.specs.declared.name.Element.TheVariants.{Node, Edge, End}
 use Rattle.graph_state.specs.State.{GraphState}
 use Rattle.graph_state.specs.Names.{IsOnce, list_of, IsLive}
-use Rattle.graph_state.specs.Formed.{IsFormed}
+use Rattle.graph_state.specs.Formed.{IsFormed, IsKeptType}
 use Rattle.graph_state.specs.Edits.{without_edge, without_edges, without_node, has_end, cleared}
 use Rattle.graph_state.proofs.Has.{none_some, not_both, has_none}
 
@@ -33,9 +33,9 @@ module _ (s : GraphState) where
   nothing_live (Edge e) i = i
   nothing_live (End d) i = i
 
-  pub formed_cleared : (s.made_nodes ≤ 16777215) × (s.made_edges ≤ 16777215) → IsFormed (cleared s)
+  pub formed_cleared : (s.made_nodes ≤ 16777215) × (s.made_edges ≤ 16777215) → IsKeptType s.node_type × IsKeptType s.edge_type → IsFormed (cleared s)
   unfolding cleared
-  formed_cleared made = record {
+  formed_cleared made types = record {
     homes = λ l x i. absurd (has_none (list_of (cleared s) l) (lists_empty l) x i);
     housed = λ x i. absurd (nothing_live x i);
     once = λ l. subst IsOnce (sym (lists_empty l)) tt;
@@ -49,6 +49,7 @@ module _ (s : GraphState) where
     edge_labels = λ e l g. absurd (none_some (sym (get-empty nat_cmp e) ∙ g));
     few = (omega arith, omega arith);
     made = made;
+    types = types;
   }
 
 -- what goes before all goes makes no difference

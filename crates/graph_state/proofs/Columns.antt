@@ -61,6 +61,7 @@ module _ (s : GraphState) (r : map.FinMap nat_cmp ℕ) (a b : map.FinMap nat_cmp
     edge_labels = edges;
     few = f.few;
     made = f.made;
+    types = f.types;
   }
 
 -- what is left of a map of reversals where e and its reversal lose each other

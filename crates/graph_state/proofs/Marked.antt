@@ -53,6 +53,7 @@ module _ (s : GraphState) (vs es : set.FinSet nat_cmp) where
     edge_labels = f.edge_labels;
     few = f.few;
     made = f.made;
+    types = f.types;
   }
 
 -- the mark of one number is changed

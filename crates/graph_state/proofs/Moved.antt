@@ -194,4 +194,5 @@ module _ (s : GraphState) (f : IsFormed s) (e v w : ℕ) (here : Has e s.edges) 
       edge_labels = f.edge_labels;
       few = f.few;
       made = f.made;
+      types = f.types;
     }

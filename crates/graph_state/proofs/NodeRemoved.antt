@@ -173,6 +173,7 @@ module _ (s : GraphState) (f : IsFormed s) (v : ℕ) (alone : IsAlone s v) where
       edge_labels = f.edge_labels;
       few = (let long = nodes_fewer in let few = f.few.0 in omega (arith, long, few), f.few.1);
       made = f.made;
+      types = f.types;
     }
 
 -- each deletion leaves fewer

@@ -52,4 +52,5 @@ module _ (s : GraphState) (directed : Bool) (ends : map.FinMap nat_cmp (ℕ × �
     edge_labels = f.edge_labels;
     few = f.few;
     made = f.made;
+    types = f.types;
   }

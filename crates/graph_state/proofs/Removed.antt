@@ -311,6 +311,7 @@ module _ (s : GraphState) (f : IsFormed s) (e : ℕ) where
       ];
       few = (f.few.0, let long = edges_fewer in let few = f.few.1 in omega (arith, long, few));
       made = f.made;
+      types = f.types;
     }
 
 -- a state without an edge is well-formed

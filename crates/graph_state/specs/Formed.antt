@@ -1,7 +1,8 @@
 -- Well-formed states.
-use Rattle.std.specs.Prelude.{◌≡◌, ℕ, ◌<◌, ◌≤◌, true, List, length, Some}
+use Rattle.std.specs.Prelude.{◌≡◌, ℕ, ◌<◌, ◌≤◌, true, false, ◌⊎◌, List, [], length, Some}
 use Rattle.std.specs.FinMap as map
 use Rattle.std.specs.FinSet as set
+use Rattle.graph_defs.specs.Plain.{IsTypeName, is_void}
 use Rattle.graph_state.specs.declared.name.ListName.{ListName}
 use Rattle.graph_state.specs.declared.name.Element.{Element}
 use Rattle.graph_state.specs.State.{GraphState, source, target}
@@ -11,6 +12,10 @@ use Rattle.graph_state.specs.Names.{Has, IsOnce, list_of, IsLive, home}
 pub record IsLabel (label : List ℕ) : Type 0 where
   pub few : length label ≤ 60000
   pub line : Has 10 label → ⊥
+
+-- a type of labels: without bytes, which stands for `void`, or another type name of a file
+abbrev pub IsKeptType : List ℕ → Type 0
+IsKeptType name = (name ≡ []) ⊎ (IsTypeName name × (is_void name ≡ false))
 
 -- e and f are each other's reversal: two edges between the same nodes in opposite directions
 pub record IsPair (s : GraphState) (e f : ℕ) : Type 0 where
@@ -38,3 +43,4 @@ pub record IsFormed (s : GraphState) : Type 0 where
   pub edge_labels : (e : ℕ) (label : List ℕ) → map.get s.edge_labels e ≡ Some label → IsLabel label
   pub few : (length s.nodes ≤ 100000) × (length s.edges ≤ 400000)
   pub made : (s.made_nodes ≤ 16777215) × (s.made_edges ≤ 16777215)
+  pub types : IsKeptType s.node_type × IsKeptType s.edge_type

@@ -51,6 +51,9 @@ all_cons : {X : Type 0} (P : X → Type 0) (x : X) (xs : List X) → P x → All
 all_cons P x xs p all zero d lt = p
 all_cons P x xs p all (suc k) d lt = all k d (omega (arith, lt))
 
+pub node_seen : (s : GraphState) (v : ℕ) → Has v (node_numbers s) → AreVisible s (names.Node v ∷ [])
+node_seen s v i = let h = has_filter (shows_node s) v s.nodes i in (h.0, h.1, tt)
+
 module _ (s : GraphState) (f : IsFormed s) where
   pub nodes_once : IsOnce (node_numbers s)
   nodes_once = once_filter (shows_node s) s.nodes (once_unmap Node s.nodes (f.once Nodes))

@@ -1,3 +1,4 @@
+pub mod Canon
 pub mod Edits
 pub mod Net
 pub mod Refusals

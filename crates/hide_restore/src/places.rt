@@ -4,7 +4,7 @@ ghost use Rattle.graph_state.specs.Names.{Has, IsOnce};
 ghost use Rattle.hide_restore.specs.Net.{numbers_of_nodes, place_of, HavePlaces};
 
 use graph_core::NodeItem;
-use leda_base::NoMemory;
+use leda_base::{NoMemory, Row};
 use std::alloc::Global;
 use std::marker::Model;
 
@@ -41,12 +41,34 @@ impl Places {
     pub fn of(alloc: Global, most: u32, nodes: &[NodeItem]) -> Result<Places, NoMemory>
         requires most { (v : ℕ) → Has v (numbers_of_nodes nodes.now) → v ≤ most }
         requires once { IsOnce (numbers_of_nodes nodes.now) }
-        requires few { length nodes.now ≤ 100000 }
+        requires few { length nodes.now ≤ 400000 }
         ensures { IfOk result (λ places. places ≡ numbers_of_nodes nodes.now) }
     {
-        let numbers = numbers_of(alloc, nodes)?;
+        Places::of_numbers(alloc, most, numbers_of(alloc, nodes)?)
+    }
+
+    /// The places of numbers that are at most `most` and differ. In time linear in them, but for
+    /// the zeroing of `most` entries of 4 bytes each.
+    ///
+    /// # Errors
+    ///
+    /// `NoMemory` where there is no memory.
+    pub fn of_numbers(alloc: Global, most: u32, numbers: Row<u32>) -> Result<Places, NoMemory>
+        requires most { (v : ℕ) → Has v numbers → v ≤ most }
+        requires once { IsOnce numbers }
+        requires few { length numbers ≤ 400000 }
+        ensures { IfOk result (λ places. places ≡ numbers) }
+    {
+        let numbers = numbers.into_vec();
         let table = table_of(alloc, most, numbers.as_slice())?;
         Ok(Places { numbers, table })
+    }
+
+    /// The numbers, in their order.
+    pub fn numbers(&self) -> &[u32]
+        ensures { result.now ≡ self.now }
+    {
+        self.numbers.as_slice()
     }
 
     /// The place of a number, and none exactly where the list hasn't the number.
@@ -64,10 +86,10 @@ impl Places {
 }
 
 /// The numbers of the nodes.
-fn numbers_of(alloc: Global, nodes: &[NodeItem]) -> Result<Vec<u32>, NoMemory>
-    ensures { IfOk result (λ numbers. numbers.items ≡ numbers_of_nodes nodes.now) }
+fn numbers_of(alloc: Global, nodes: &[NodeItem]) -> Result<Row<u32>, NoMemory>
+    ensures { IfOk result (λ numbers. numbers ≡ numbers_of_nodes nodes.now) }
 {
-    let mut numbers = Vec::with_capacity(alloc, nodes.len())?;
+    let mut numbers = Row::with_room(alloc, nodes.len())?;
     for node in nodes {
         numbers.push(node.0.serial)?;
     }
@@ -78,7 +100,7 @@ fn numbers_of(alloc: Global, nodes: &[NodeItem]) -> Result<Vec<u32>, NoMemory>
 fn table_of(alloc: Global, most: u32, numbers: &[u32]) -> Result<Vec<u32>, NoMemory>
     requires most { All (λ v. v ≤ most) numbers.now }
     requires once { IsOnce numbers.now }
-    requires few { length numbers.now ≤ 100000 }
+    requires few { length numbers.now ≤ 400000 }
     ensures { IfOk result (λ table.
         HavePlaces numbers.now most (length numbers.now) table.items) }
 {

@@ -74,7 +74,7 @@ fn arcs_of(
 }
 
 /// The arc that stands for the edge, which is visible.
-fn arc(g: &Graph, places: &Places, e: EdgeItem) -> (u32, u32)
+pub(crate) fn arc(g: &Graph, places: &Places, e: EdgeItem) -> (u32, u32)
     requires formed { IsFormed g.now }
     requires places { places.now ≡ node_numbers g.now }
     requires visible { AreVisible g.now (names.Edge e.0.serial ∷ []) }

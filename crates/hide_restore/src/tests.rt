@@ -1,5 +1,6 @@
 //! An edge hidden and restored.
 
+mod canon;
 mod mixed;
 mod nodes;
 mod shown;

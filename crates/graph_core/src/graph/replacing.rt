@@ -3,7 +3,7 @@ ghost use Rattle.std.specs.Prelude.{◌≡◌, ◌+◌, ◌≤◌, ◌<◌, ◌�
 ghost use Rattle.leda_base.specs.declared.name.ItemName.TheVariants as names;
 ghost use Rattle.graph_defs.specs.Plain.{IsPlainGraph};
 ghost use Rattle.graph_state.specs.State.{new_graph};
-ghost use Rattle.graph_state.specs.Formed.{IsLabel};
+ghost use Rattle.graph_state.specs.Formed.{IsLabel, IsKeptType};
 ghost use Rattle.graph_state.specs.Built.{kept_type, with_nodes, with_plain_edge, with_plain_edges, built, HasNumbers, RefusesPlain};
 ghost use Rattle.graph_state.specs.Refusals.{AreVisible};
 ghost use Rattle.graph_core.specs.Replaces.{AreLabels, LeadsBack, CanBuild};
@@ -47,6 +47,7 @@ impl Graph {
     ) -> Graph
         requires nodes { made_nodes ≤ MOST_SERIALS }
         requires edges { made_edges ≤ MOST_SERIALS }
+        requires types { IsKeptType node_type × IsKeptType edge_type }
         ensures { result ≡ new_graph directed node_type edge_type made_nodes made_edges }
     {
         let alloc = node_type.alloc();

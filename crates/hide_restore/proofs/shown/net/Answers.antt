@@ -1,5 +1,5 @@
 -- The net is that of the visible graph.
-use Rattle.std.proofs.Common.{rules, ◌≤◌, map, length, sym, ap, subst, ◌∙◌}
+use Rattle.std.proofs.Common.{rules, ◌≤◌, arith, map, length, sym, ap, subst, ◌∙◌}
 use Rattle.graph_state.specs.Names.{Has, IsOnce}
 use Rattle.graph_defs.specs.Net.{IsValid}
 use Rattle.hide_restore.specs.Net.{numbers_of_nodes, numbers_of_edges, arc_of}
@@ -19,7 +19,9 @@ of-requires-clause-once c =
 pub of-requires-clause-few : goal.of-requires-clause-few
 of-requires-clause-few c =
     let same = ap numbers_of_nodes c.as_slice.ensures ∙ c.in_ok-nodes.ensures in
-    subst (λ n. n ≤ 100000) (sym (count_nodes c.as_slice.result.now c.args.g.now same)) (nodes_few c.args.g.now c.made_nodes-made.ensures.formed)
+    let few = nodes_few c.args.g.now c.made_nodes-made.ensures.formed in
+    let count = count_nodes c.as_slice.result.now c.args.g.now same in
+    omega (arith, few, count)
 
 pub arcs_of-requires-clause-visible : goal.arcs_of-requires-clause-visible
 arcs_of-requires-clause-visible c e i =

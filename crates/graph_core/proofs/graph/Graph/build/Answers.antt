@@ -3,9 +3,10 @@ use Rattle.leda_base.specs.declared.name.ItemName.TheVariants as names
 use Rattle.graph_defs.specs.declared.plain.PlainGraph.{PlainGraph}
 use Rattle.graph_defs.specs.Plain.{IsPlainGraph, is_void}
 use Rattle.graph_state.specs.State.{GraphState, new_graph}
+use Rattle.graph_state.specs.Formed.{IsKeptType}
 use Rattle.graph_state.specs.Refusals.{AreVisible}
 use Rattle.graph_state.specs.Built.{kept_type, bare, with_nodes, with_plain_edges}
-use Rattle.graph_state.proofs.Built.{nodes_visible, edges_made}
+use Rattle.graph_state.proofs.Built.{type_kept, nodes_visible, edges_made}
 use Rattle.graph_core.specs.Replaces.{CanBuild}
 use Rattle.graph_core.proofs.Replaces.{labels_are}
 use Rattle.graph_core.proofs.graph.Graph.build.Goals as goal
@@ -21,6 +22,12 @@ can_build g nodes edges s is few_nodes few_edges at = record {
   edges = is.edges;
   pairs = is.pairs;
 }
+
+pub begin-graph-requires-clause-types : goal.begin-graph-requires-clause-types
+begin-graph-requires-clause-types c = (
+  subst IsKeptType (sym c.kept_type.ensures) (type_kept c.args.plain.node_type c.requires.plain.node_type),
+  subst IsKeptType (sym c.kept_type-2.ensures) (type_kept c.args.plain.edge_type c.requires.plain.edge_type),
+)
 
 pub add_nodes-requires : goal.add_nodes-requires
 add_nodes-requires c = labels_are (is_void c.args.plain.node_type) c.args.plain.nodes c.requires.plain.nodes
