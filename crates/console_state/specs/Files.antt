@@ -1,16 +1,21 @@
 -- Commands that load the graph from a file, or save it to one.
-use Rattle.std.specs.Prelude.{◌≡◌, ◌⊎◌, ℕ, ◌+◌, ◌≤◌, nat_le, ◌&&◌, if◌then◌else◌, List, [], ◌∷◌, length, Some, Result, Ok, Err, ⊤}
+use Rattle.std.specs.Prelude.{◌≡◌, ◌⊎◌, ℕ, ◌+◌, ◌≤◌, nat_le, ◌&&◌, if◌then◌else◌, List, [], ◌∷◌, length, Option, Some, None, Result, Ok, Err, ⊤}
 use Rattle.item_pool.specs.declared.pool.TheConstants.{MOST_SERIALS}
 use Rattle.leda_edge.specs.declared.store.LoadFault.{LoadFault}
 use Rattle.leda_edge.specs.declared.store.LoadFault.TheVariants as loads
+use Rattle.leda_edge.specs.declared.store.SaveFault.{SaveFault}
+use Rattle.leda_edge.specs.declared.store.SaveFault.TheVariants as saves
 use Rattle.leda_edge.specs.Causes.{Rose}
-use Rattle.leda_edge.specs.Files.{HasFile, LacksFile, HasLonger}
+use Rattle.leda_edge.specs.Files.{HasFile, LacksFile, HasLonger, OpensFile, Saves}
 use Rattle.leda_edge.specs.Stored.{Stored}
 use Rattle.graph_defs.specs.declared.plain.PlainGraph.{PlainGraph}
 use Rattle.graph_defs.specs.declared.plain.TextKind.{TextKind}
 use Rattle.graph_state.specs.Built.{built}
+use Rattle.graph_state.specs.State.{visible_nodes, visible_edges}
+use Rattle.hide_restore.specs.Canon.{plain_of}
 use Rattle.graph_text.specs.declared.reading.TheConstants.{TEXT_LIMIT}
 use Rattle.graph_text.specs.Text.{GraphText, fault_of}
+use Rattle.graph_text.specs.Written.{text_of}
 use Rattle.script_text.specs.declared.argument.Arg.{Arg}
 use Rattle.script_text.specs.declared.argument.Arg.TheVariants as args
 use Rattle.script_text.specs.declared.word.FileWord.{FileWord}
@@ -77,7 +82,29 @@ pub record Loads (name : List ℕ) (s : State) (f : Stored)
   pub files : f'.files ≡ f.files
   pub outcome : LoadsBy answer s (s', reply)
 
+-- what it leads to that the store answers so to the saving of the graph's text
+abbrev pub SavesBy : Option SaveFault → State → Outcome State → Type 0
+SavesBy None s outcome =
+    outcome ≡ done s (Two (length (visible_nodes s.graph)) (length (visible_edges s.graph)))
+SavesBy (Some saves.Failed) s outcome = outcome ≡ refused s refusals.Store
+SavesBy (Some saves.NoMemory) s outcome = WantsMemory s outcome
+
+-- what the answer tells of the file of this name, and of calls that fail
+abbrev pub TellsSave : Stored → Stored → List ℕ → List ℕ → Option SaveFault → Type 0
+TellsSave f f' name text None = Saves f.files f'.files name text
+TellsSave f f' name text (Some saves.Failed) =
+    OpensFile f.files f'.files name × Rose f.faults f'.faults
+TellsSave f f' name text (Some saves.NoMemory) = f'.files ≡ f.files
+
+-- `save name`: the file has the text of the visible graph then, and no other file changes
+pub record SavesTo (name : List ℕ) (s : State) (f : Stored)
+    (reply : Reply) (s' : State) (f' : Stored) : Type 0 where
+  pub fault : Option SaveFault
+  pub told : TellsSave f f' name (text_of (plain_of s.graph)) fault
+  pub outcome : SavesBy fault s (s', reply)
+
 -- a command on a file by its word, if these are arguments that the word takes
 abbrev pub Exchanges : FileWord → List Arg → State → Stored → Reply → State → Stored → Type 0
 Exchanges words.Load (args.File name ∷ []) s f reply s' f' = Loads name s f reply s' f'
+Exchanges words.Save (args.File name ∷ []) s f reply s' f' = SavesTo name s f reply s' f'
 Exchanges word args s f reply s' f' = ⊥

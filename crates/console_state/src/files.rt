@@ -1,19 +1,23 @@
 //! Commands that load the graph from a file, or save it to one.
-ghost use Rattle.std.specs.Prelude.{◌≡◌, ◌⊎◌, ◌≤◌, length, IsTrue};
+ghost use Rattle.std.specs.Prelude.{◌≡◌, ◌⊎◌, ◌≤◌, length, IsTrue, IfOk};
 ghost use Rattle.graph_defs.specs.Plain.{IsPlainGraph};
+ghost use Rattle.graph_text.specs.Written.{text_of};
+ghost use Rattle.hide_restore.specs.Canon.{plain_of};
 ghost use Rattle.leda_edge.specs.Stored.{stored, StaysStored};
 ghost use Rattle.script_text.specs.declared.word.Word.TheVariants as words;
 ghost use Rattle.script_text.specs.Table.{IsWhole};
 ghost use Rattle.script_text.specs.Text.{is_file};
 ghost use Rattle.reply_text.specs.Text.{IsNamed, IsShort};
-ghost use Rattle.console_state.specs.Files.{with_plain, ReadsText, WantsMemory, Loads, Exchanges};
+ghost use Rattle.console_state.specs.Files.{with_plain, ReadsText, WantsMemory, Loads, SavesTo, Exchanges};
 ghost use Rattle.console_state.specs.Refused.{load_refusal};
 
 use crate::session::Session;
 use graph_core::EditRefusal;
 use graph_defs::PlainGraph;
-use graph_text::{TEXT_LIMIT, TextRefusal, read};
-use leda_edge::{LoadFault, Store};
+use graph_text::{TEXT_LIMIT, TextRefusal, read, write};
+use hide_restore::plain;
+use leda_base::NoMemory;
+use leda_edge::{LoadFault, SaveFault, Store};
 use reply_text::{Refusal, Reply, ReplyLine};
 use script_text::{Arg, FileWord};
 
@@ -40,6 +44,7 @@ impl Session {
         };
         match word {
             FileWord::Load => self.load(text_of_name(name.as_slice()), files),
+            FileWord::Save => self.save(text_of_name(name.as_slice()), files),
         }
     }
 
@@ -57,6 +62,38 @@ impl Session {
             Ok(text) => self.read_text(text.as_slice()),
             Err(fault) => Reply::Refused(load_refusal(fault)),
         }
+    }
+
+    /// The visible graph is saved to a file.
+    fn save<F: Store>(&self, name: &str, files: &mut F) -> Reply
+        ensures does { SavesTo name.now
+            self.now (stored (F.files files.old) (F.faults files.old)) result
+            self.now (stored (F.files files.new) (F.faults files.new)) }
+        ensures store { StaysStored (stored (F.files files.old) (F.faults files.old))
+            (stored (F.files files.new) (F.faults files.new)) }
+        ensures named { IsNamed result }
+        ensures short { IsShort result }
+    {
+        let Ok(text) = self.text() else {
+            return Reply::Refused(Refusal::Memory);
+        };
+        match files.save(self.alloc, name, text.as_slice()) {
+            Ok(()) => {
+                Reply::Line(ReplyLine::Two(self.graph.count_nodes(), self.graph.count_edges()))
+            }
+            Err(SaveFault::Failed) => Reply::Refused(Refusal::Store),
+            Err(SaveFault::NoMemory) => Reply::Refused(Refusal::Memory),
+        }
+    }
+
+    /// The text of the visible graph.
+    ///
+    /// # Errors
+    /// `NoMemory` where there is no memory for it.
+    fn text(&self) -> Result<Vec<u8>, NoMemory>
+        ensures { IfOk result (λ text. text.items ≡ text_of (plain_of self.now.graph)) }
+    {
+        write(self.alloc, &plain(self.alloc, &self.graph)?)
     }
 
     /// The graph that a text stands for takes the place of the session's.

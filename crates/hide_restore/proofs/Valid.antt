@@ -1,18 +1,16 @@
 -- The plain graph of a well-formed state is valid.
-use Rattle.std.proofs.Common.{◌≡◌, ℕ, zero, suc, ◌+◌, ◌<◌, ◌≤◌, ◌==◌, Bool, true, false, cond, not, ◌&&◌, List, [], ◌∷◌, ◌++◌, map, length, Option, Some, None, option_map, unwrap_or, get_or, refl, sym, ap, subst, ◌∙◌, inl, inr, arith}
+use Rattle.std.proofs.Common.{◌≡◌, ℕ, suc, ◌+◌, ◌<◌, ◌≤◌, ◌==◌, Bool, true, false, cond, not, ◌&&◌, List, [], ◌∷◌, ◌++◌, map, length, Option, Some, None, option_map, unwrap_or, get_or, refl, sym, ap, subst, ◌∙◌, inl, inr, arith}
 use Rattle.std.specs.Prelude.{slice_get, codes, IfSome}
 use Rattle.std.specs.Bool.{OnTrue}
 use Rattle.std.specs.List.{list_all, AllByRecursion}
 use Rattle.std.specs.Option.{option_map_or}
-use Rattle.std.specs.Ordering.{nat_cmp}
 use Rattle.std.specs.FinMap as map_of
 use Rattle.std.proofs.lemmas.List.{length-map}
-use Rattle.leda_base.specs.declared.name.ItemName.TheVariants as names
 use Rattle.graph_defs.specs.declared.plain.PlainEdge.{PlainEdge}
 use Rattle.graph_defs.specs.Plain.{is_one_line, IsTypeName, is_void, IsLabelOf, is_number, leads_back, may_have, is_paired, are_paired, IsPlainEdge, IsPlainGraph}
-use Rattle.graph_state.specs.State.{GraphState, source, target, node_label, edge_label, visible_nodes, shows_edge}
+use Rattle.graph_state.specs.State.{GraphState, source, target, node_label, edge_label, visible_nodes}
 use Rattle.graph_state.specs.Names.{Has, IsOnce}
-use Rattle.graph_state.specs.Formed.{IsFormed, IsKeptType, IsLabel, IsPair}
+use Rattle.graph_state.specs.Formed.{IsFormed, IsKeptType, IsLabel}
 use Rattle.graph_state.specs.Reversals.{if_shown, visible_reversal}
 use Rattle.graph_state.proofs.Has.{not_both, has_right, has_mapped}
 use Rattle.graph_state.proofs.Same.{nat_tells, same_is, same_not}

@@ -54,7 +54,7 @@ macro_rules! rows {
 pub(crate) use rows;
 
 /// The table. All that is said of a command before it runs is said here.
-pub(crate) const TABLE: [Entry; 38] = rows! {
+pub(crate) const TABLE: [Entry; 39] = rows! {
     "node"             Edit(EditWord::Node)           [LABEL]              Taken;
     "edge"             Edit(EditWord::Edge)           [NODE, NODE, LABEL]  Taken;
     "edge_before"      Edit(EditWord::EdgeBefore)     [EDGE, NODE, LABEL]  Taken;
@@ -76,6 +76,7 @@ pub(crate) const TABLE: [Entry; 38] = rows! {
     "restore_all"      Edit(EditWord::RestoreAll)     []                   NotTaken;
     "restore_edge"     Edit(EditWord::RestoreEdge)    [LIVE_EDGE]          NotTaken;
     "load"             File(FileWord::Load)           [FILE]               Taken;
+    "save"             File(FileWord::Save)           [FILE]               Taken;
     "count"            Look(LookWord::Count)          []                   NotTaken;
     "nodes"            Look(LookWord::Nodes)          []                   TakenByReply;
     "edges"            Look(LookWord::Edges)          []                   TakenByReply;

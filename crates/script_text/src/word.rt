@@ -50,6 +50,7 @@ pub enum LookWord {
 #[derive(Clone, Copy, Debug, PartialEq, Eq)]
 pub enum FileWord {
     Load,
+    Save,
 }
 
 /// The word of a command that asks about the graph.

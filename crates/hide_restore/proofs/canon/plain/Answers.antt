@@ -1,5 +1,5 @@
 -- The places are those of the visible nodes and edges.
-use Rattle.std.proofs.Common.{◌≡◌, ◌≤◌, map, length, sym, ap, subst, ◌∙◌, arith}
+use Rattle.std.proofs.Common.{◌≤◌, map, length, sym, ap, subst, ◌∙◌, arith}
 use Rattle.std.specs.List.{list_all, flat_map}
 use Rattle.graph_defs.specs.declared.plain.PlainEdge.{PlainEdge}
 use Rattle.graph_defs.specs.Plain.{IsPlainGraph}

@@ -1,5 +1,5 @@
 -- The numbers of the nodes.
-use Rattle.std.proofs.Common.{◌≤◌, length, sym, subst}
+use Rattle.std.proofs.Common.{sym, subst}
 use Rattle.graph_state.specs.Names.{Has, IsOnce}
 use Rattle.hide_restore.proofs.places.Places.of.Goals as goal
 
