@@ -1,0 +1,13 @@
+pub mod Bounds
+pub mod Climbs
+pub mod Ends
+pub mod Falls
+pub mod Findings
+pub mod FreeNodes
+pub mod Heaps
+pub mod LabelSteps
+pub mod Reaches
+pub mod Steps
+pub mod Tallies
+pub mod Truths
+pub mod Wholes

@@ -1,0 +1,10 @@
+pub mod Finding
+pub mod Forest
+pub mod Labels
+pub mod Lows
+pub mod Refusals
+pub mod Rounds
+pub mod Settling
+pub mod Tags
+pub mod Telling
+pub mod Waiting

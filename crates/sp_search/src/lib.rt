@@ -1,0 +1,25 @@
+//! Searches over a net: shortest paths from one node.
+//!
+//! A search answers what shows by itself that its distances are least: each node behind the one
+//! that it is reached from, with the arc that leads there.
+#![tactic(auto)]
+
+mod any_costs;
+mod distances;
+mod finding;
+mod forest;
+mod labels;
+mod lows;
+mod refusals;
+mod rounds;
+mod settling;
+mod tags;
+mod telling;
+mod walks;
+
+pub use any_costs::shortest;
+pub use distances::dijkstra;
+pub use refusals::SpRefusal;
+
+#[cfg(test)]
+mod tests;
