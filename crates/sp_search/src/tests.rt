@@ -40,7 +40,7 @@ fn search(
 ) -> Result<Result<SpAnswer, SpRefusal>, NoMemory> {
     let net = net_of(alloc, n, arcs)?;
     assert!(rt; net.is_valid());
-    assert!(rt; s < n);
+    assert!(rt; s < net.n);
     assert!(rt; costs.len() == net.arcs.as_slice().len());
     Ok(dijkstra(alloc, &net, s, costs))
 }
@@ -55,7 +55,7 @@ fn search_any(
 ) -> Result<Result<SpAnswer, SpRefusal>, NoMemory> {
     let net = net_of(alloc, n, arcs)?;
     assert!(rt; net.is_valid());
-    assert!(rt; s < n);
+    assert!(rt; s < net.n);
     assert!(rt; costs.len() == net.arcs.as_slice().len());
     Ok(shortest(alloc, &net, s, costs))
 }
