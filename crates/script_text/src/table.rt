@@ -4,9 +4,9 @@ ghost use Rattle.script_text.specs.Borrowed.{entry_seen, token_seen};
 ghost use Rattle.script_text.specs.Table.{table, entry_of as the_entry, may_begin};
 
 use crate::argument::Misfit;
-use crate::form::{Form, Sight, read_arg};
+use crate::form::{Form, Kinds, Sight, read_arg};
 use crate::token::Token;
-use crate::word::{EditWord, FileWord, LookWord, QueryWord, Word};
+use crate::word::{EditWord, FileWord, LookWord, ObjectWord, QueryWord, Word};
 
 /// Whether running a command takes memory, so that it may be answered by want of memory.
 #[derive(Clone, Copy, Debug, PartialEq, Eq)]
@@ -42,6 +42,16 @@ const NEW_LABEL: Form = Form::Label;
 
 const FILE: Form = Form::File;
 
+const NEW_NAME: Form = Form::NewName;
+
+const LIST: Form = Form::Object(Kinds::List);
+
+const LIST_CELL: Form = Form::Cell(Kinds::List);
+
+const CELL: Form = Form::Cell(Kinds::Container);
+
+const NUM: Form = Form::Num;
+
 /// Writes the rows of a table, one a line: the spelling, the word, what is asked of each argument,
 /// and the memory.
 macro_rules! rows {
@@ -54,7 +64,7 @@ macro_rules! rows {
 pub(crate) use rows;
 
 /// The table. All that is said of a command before it runs is said here.
-pub(crate) const TABLE: [Entry; 39] = rows! {
+pub(crate) const TABLE: [Entry; 47] = rows! {
     "node"             Edit(EditWord::Node)           [LABEL]              Taken;
     "edge"             Edit(EditWord::Edge)           [NODE, NODE, LABEL]  Taken;
     "edge_before"      Edit(EditWord::EdgeBefore)     [EDGE, NODE, LABEL]  Taken;
@@ -93,6 +103,14 @@ pub(crate) const TABLE: [Entry; 39] = rows! {
     "reversal"         Look(LookWord::Reversal)       [EDGE]               NotTaken;
     "face_succ"        Look(LookWord::FaceSucc)       [EDGE]               NotTaken;
     "get_label"        Look(LookWord::GetLabel)       [ELEMENT]            TakenByReply;
+    "list"             Object(ObjectWord::MakeList)     [NEW_NAME]       Taken;
+    "dict"             Object(ObjectWord::MakeDict)     [NEW_NAME]       Taken;
+    "queue"            Object(ObjectWord::MakeQueue)    [NEW_NAME]       Taken;
+    "push"             Object(ObjectWord::Push)         [LIST, NUM]      Taken;
+    "append"           Object(ObjectWord::Append)       [LIST, NUM]      Taken;
+    "insert_before"    Object(ObjectWord::InsertBefore) [LIST_CELL, NUM] Taken;
+    "insert_behind"    Object(ObjectWord::InsertBehind) [LIST_CELL, NUM] Taken;
+    "del_item"         Object(ObjectWord::DelItem)      [CELL]           NotTaken;
     "reach"            Query(QueryWord::Reach)        [NODE, NODE]         TakenByReply;
 };
 

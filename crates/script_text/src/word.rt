@@ -53,6 +53,19 @@ pub enum FileWord {
     Save,
 }
 
+/// The word of a command on an object or on one of its items.
+#[derive(Clone, Copy, Debug, PartialEq, Eq)]
+pub enum ObjectWord {
+    MakeList,
+    MakeDict,
+    MakeQueue,
+    Push,
+    Append,
+    InsertBefore,
+    InsertBehind,
+    DelItem,
+}
+
 /// The word of a command that asks about the graph.
 #[derive(Clone, Copy, Debug, PartialEq, Eq)]
 pub enum QueryWord {
@@ -65,5 +78,6 @@ pub enum Word {
     Edit(EditWord),
     Look(LookWord),
     File(FileWord),
+    Object(ObjectWord),
     Query(QueryWord),
 }

@@ -1,0 +1,39 @@
+-- The places and the pool stand for the objects.
+use Rattle.std.proofs.Common.{◌≡◌, true, false, [], ◌∷◌, sym, ap, subst, ◌∙◌, w64}
+use Rattle.std.specs.Prelude.{ℤ}
+use Rattle.std.proofs.lemmas.Int.{to_z-of_z}
+use Rattle.item_queue.proofs.Written.{items_back}
+use Rattle.script_text.specs.declared.argument.Arg.TheVariants as args
+use Rattle.script_text.specs.declared.form.Kinds.TheVariants as kinds
+use Rattle.script_text.specs.declared.word.ObjectWord.TheVariants as words
+use Rattle.object_store.specs.State.{ObjectState}
+use Rattle.object_store.specs.Commands.{objects_done}
+use Rattle.object_store.specs.Views.{has_object}
+use Rattle.object_store.specs.Kept.{Places, state_of, IsKept}
+use Rattle.object_store.specs.Leads.{Leads}
+use Rattle.object_store.proofs.Leads.{led}
+use Rattle.object_store.proofs.objects.Objects.append.Goals as goal
+
+pub put_at_end-requires-clause-kept : goal.put_at_end-requires-clause-kept
+put_at_end-requires-clause-kept c = subst (λ (ps : Places). IsKept ps c.self.inside.cells) (sym c.as_mut_slice.ensures.value) c.self.invariant
+
+pub put_at_end-requires-clause-there : goal.put_at_end-requires-clause-there
+put_at_end-requires-clause-there c =
+    ap (λ (ps : Places). has_object (state_of ps c.self.inside.cells) kinds.List c.args.name.now) c.as_mut_slice.ensures.value
+    ∙ ap (λ (s : ObjectState). has_object s kinds.List c.args.name.now) c.self.view_is ∙ c.requires
+
+pub invariant_of-self : goal.invariant_of-self
+invariant_of-self c =
+    let zs = c.put_at_end.new.slots in
+    subst (λ (ps : Places). IsKept ps c.put_at_end.new.cells) (sym (items_back c.self.inside.slots zs (c.put_at_end.auto.slots ∙ c.as_mut_slice.ensures.len))) c.put_at_end.ensures.kept
+
+pub returns-clause-leads : goal.returns-clause-leads
+returns-clause-leads c =
+    let a = c.self.inside in
+    let ws = c.as_mut_slice.result.now in
+    let zs = c.put_at_end.new.slots in
+    let after = c.put_at_end.new.cells in
+    led true words.Append (args.Name c.args.name.now ∷ args.Num c.args.value ∷ []) (state_of ws a.cells) c.args.self.now (state_of zs after) _ c.put_at_end.result
+    (ap (λ (ps : Places). state_of ps a.cells) c.as_mut_slice.ensures.value ∙ c.self.view_is)
+    (ap (λ (ps : Places). state_of ps after) (sym (items_back a.slots zs (c.put_at_end.auto.slots ∙ c.as_mut_slice.ensures.len))))
+    (subst (λ (z : ℤ). Leads true (objects_done words.Append (args.Name c.args.name.now ∷ args.Num z ∷ []) (state_of ws a.cells)) (state_of ws a.cells) c.put_at_end.result (state_of zs after)) (to_z-of_z w64 c.args.value c.ranges.value) c.put_at_end.ensures.leads)

@@ -1,0 +1,52 @@
+-- Private: how the containers stand for objects.
+use Rattle.std.specs.Prelude.{◌≡◌, ℕ, ℤ, Bool, ◌+◌, ◌≤◌, ◌<◌, ◌==◌, List, [], ◌∷◌, map, length, Option, Some, None, if◌then◌else◌}
+use Rattle.std.specs.FinMap as finmap
+use Rattle.item_list.specs.Items.{Items}
+use Rattle.item_dict.specs.Contents.{Contents}
+use Rattle.item_queue.specs.Contents.{Queued}
+use Rattle.object_store.specs.declared.kind.ObjectKind.{ObjectKind}
+use Rattle.object_store.specs.declared.kind.ObjectKind.TheVariants as kinds
+use Rattle.object_store.specs.declared.object.Entry.{Entry}
+use Rattle.object_store.specs.declared.object.Object.{Object as Held}
+use Rattle.object_store.specs.declared.object.Object.TheVariants as held
+use Rattle.object_store.specs.State.{Cell, Object}
+
+-- an item with the serial that its container gave it
+abbrev pub Inner : Type 0
+Inner = ℕ × Cell
+
+abbrev pub list_cell : ℕ × Entry → Inner
+list_cell p = (p.0, (p.1.number, p.1.value ∷ []))
+
+abbrev pub dict_cell : ℤ × (ℕ × Entry) → Inner
+dict_cell e = (e.1.0, (e.1.1.number, e.0 ∷ e.1.1.value ∷ []))
+
+abbrev pub queue_cell : ℕ × (ℤ × Entry) → Inner
+queue_cell e = (e.0, (e.1.1.number, e.1.0 ∷ e.1.1.value ∷ []))
+
+-- the items in the order of the object's, each with its serial
+abbrev pub inner : Held → List Inner
+inner (held.List l) = map list_cell l.pairs
+inner (held.Dict d) = map dict_cell (finmap.entries d.triples)
+inner (held.Queue q) = map queue_cell (finmap.entries q.live)
+
+abbrev pub kind_of : Held → ObjectKind
+kind_of (held.List l) = kinds.List
+kind_of (held.Dict d) = kinds.Dict
+kind_of (held.Queue q) = kinds.Queue
+
+-- the last serial that the container gave
+abbrev pub made_in : Held → ℕ
+made_in (held.List l) = l.made
+made_in (held.Dict d) = d.made
+made_in (held.Queue q) = q.made
+
+abbrev pub cell_in : Inner → Cell
+cell_in p = p.1
+
+abbrev pub cells_in : Held → List Cell
+cells_in o = map cell_in (inner o)
+
+-- what contracts see of an object
+abbrev pub seen : Held → Object
+seen o = record { kind = kind_of o; cells = cells_in o }

@@ -1,0 +1,10 @@
+pub mod Cells
+pub mod Commands
+pub mod Entrance
+pub mod Inner
+pub mod Kept
+pub mod Leads
+pub mod Met
+pub mod Slots
+pub mod State
+pub mod Views

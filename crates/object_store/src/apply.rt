@@ -1,0 +1,114 @@
+//! A command on objects, by its word.
+ghost use Rattle.std.specs.Prelude.{◌≡◌, List, [], ◌∷◌};
+ghost use Rattle.script_text.specs.declared.argument.Arg.TheVariants as args;
+ghost use Rattle.script_text.specs.declared.word.Word.TheVariants as commands;
+ghost use Rattle.script_text.specs.Table.{forms_of, may_lack_memory, IsWhole};
+ghost use Rattle.reply_text.specs.Outcome.{IsQuiet};
+ghost use Rattle.reply_text.specs.Text.{IsNamed};
+ghost use Rattle.object_store.specs.Commands.{objects_done};
+ghost use Rattle.object_store.specs.Leads.{Leads};
+ghost use Rattle.object_store.specs.Met.{AreMet};
+
+use crate::kind::ObjectKind;
+use crate::objects::Objects;
+use reply_text::Reply;
+use script_text::{Arg, ObjectWord};
+
+impl Objects {
+    /// A command on objects that nothing stands in the way of: it does what its row says, or is
+    /// answered by want of memory, where it may be, and all is then as it was.
+    pub fn apply(&mut self, word: ObjectWord, args: &[Arg]) -> Reply
+        requires whole { IsWhole (record { word = commands.Object word; args = args.now }) }
+        requires met { AreMet self.old (forms_of (commands.Object word)) args.now }
+        ensures does { Leads (may_lack_memory (commands.Object word))
+            (objects_done word args.now self.old) self.old result self.new }
+        ensures named { IsNamed result }
+        ensures quiet { IsQuiet (may_lack_memory (commands.Object word))
+            self.old result self.new }
+    {
+        match args {
+            [Arg::Name(name)] => self.apply_to(word, name.as_slice()),
+            [Arg::Name(name), Arg::Num(value)] => self.apply_with(word, name.as_slice(), *value),
+            [Arg::Cell(number)] => self.apply_at(word, *number),
+            [Arg::Cell(number), Arg::Num(value)] => self.apply_beside(word, *number, *value),
+            // A whole command has one of these forms.
+            _ => unreachable!(),
+        }
+    }
+
+    /// A command that names an object alone.
+    fn apply_to(&mut self, word: ObjectWord, name: &[u8]) -> Reply
+        requires whole { IsWhole (record { word = commands.Object word;
+            args = args.Name name.now ∷ [] }) }
+        requires met { AreMet self.old (forms_of (commands.Object word)) (args.Name name.now ∷ []) }
+        ensures does { Leads (may_lack_memory (commands.Object word))
+            (objects_done word (args.Name name.now ∷ []) self.old) self.old result self.new }
+        ensures named { IsNamed result }
+        ensures quiet { IsQuiet (may_lack_memory (commands.Object word))
+            self.old result self.new }
+    {
+        match word {
+            ObjectWord::MakeList => self.make(ObjectKind::List, name),
+            ObjectWord::MakeDict => self.make(ObjectKind::Dict, name),
+            ObjectWord::MakeQueue => self.make(ObjectKind::Queue, name),
+            _ => unreachable!(),
+        }
+    }
+
+    /// A command that names an object, and then a number.
+    fn apply_with(&mut self, word: ObjectWord, name: &[u8], value: i64) -> Reply
+        requires whole { IsWhole (record { word = commands.Object word;
+            args = args.Name name.now ∷ args.Num value ∷ [] }) }
+        requires met { AreMet self.old (forms_of (commands.Object word))
+            (args.Name name.now ∷ args.Num value ∷ []) }
+        ensures does { Leads (may_lack_memory (commands.Object word))
+            (objects_done word (args.Name name.now ∷ args.Num value ∷ []) self.old)
+            self.old result self.new }
+        ensures named { IsNamed result }
+        ensures quiet { IsQuiet (may_lack_memory (commands.Object word))
+            self.old result self.new }
+    {
+        match word {
+            ObjectWord::Push => self.push(name, value),
+            ObjectWord::Append => self.append(name, value),
+            _ => unreachable!(),
+        }
+    }
+
+    /// A command that names an item alone.
+    fn apply_at(&mut self, word: ObjectWord, number: u32) -> Reply
+        requires whole { IsWhole (record { word = commands.Object word;
+            args = args.Cell number ∷ [] }) }
+        requires met { AreMet self.old (forms_of (commands.Object word)) (args.Cell number ∷ []) }
+        ensures does { Leads (may_lack_memory (commands.Object word))
+            (objects_done word (args.Cell number ∷ []) self.old) self.old result self.new }
+        ensures named { IsNamed result }
+        ensures quiet { IsQuiet (may_lack_memory (commands.Object word))
+            self.old result self.new }
+    {
+        match word {
+            ObjectWord::DelItem => self.del_item(number),
+            _ => unreachable!(),
+        }
+    }
+
+    /// A command that names an item, and then a number.
+    fn apply_beside(&mut self, word: ObjectWord, number: u32, value: i64) -> Reply
+        requires whole { IsWhole (record { word = commands.Object word;
+            args = args.Cell number ∷ args.Num value ∷ [] }) }
+        requires met { AreMet self.old (forms_of (commands.Object word))
+            (args.Cell number ∷ args.Num value ∷ []) }
+        ensures does { Leads (may_lack_memory (commands.Object word))
+            (objects_done word (args.Cell number ∷ args.Num value ∷ []) self.old)
+            self.old result self.new }
+        ensures named { IsNamed result }
+        ensures quiet { IsQuiet (may_lack_memory (commands.Object word))
+            self.old result self.new }
+    {
+        match word {
+            ObjectWord::InsertBefore => self.insert_before(number, value),
+            ObjectWord::InsertBehind => self.insert_behind(number, value),
+            _ => unreachable!(),
+        }
+    }
+}

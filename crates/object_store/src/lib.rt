@@ -1,0 +1,30 @@
+//! The objects of a session by name: lists, dictionaries and queues, whose items have one numbering.
+//!
+//! `specs/State.antt` has the state, `specs/Views.antt` which object has a name or an item, and
+//! `specs/Commands.antt` what each command does and answers, row by row. The rows of which
+//! `Objects` has a method are served; the others are stated alone.
+//!
+//! - `kind`: the kinds of objects.
+//! - `object`: a container whose entries know their numbers; `entrance`: how items come in.
+//! - `slots`: the places of objects, each of which is free or has a named object.
+//! - `parts`: what comes into the places and the pool of items at once, and what goes out of both.
+//! - `edits` and `objects`: the commands, and the session's objects; `apply`: a command by its word.
+//!
+//! An item is found by its number in one look into a pool, which has the place of its object and
+//! the item that the container gave it. A container's own serials rise as the numbers do, so the
+//! container is never spent before the session is. Room in the pool is bought before an item comes
+//! in, so that one that came in is never taken back.
+#![tactic(auto)]
+
+mod apply;
+mod edits;
+mod entrance;
+mod kind;
+mod object;
+mod objects;
+mod parts;
+mod slots;
+
+pub use kind::ObjectKind;
+pub use objects::{CELL_LIMIT, OBJECT_LIMIT, Objects};
+pub use script_text::ObjectWord;
