@@ -121,6 +121,17 @@ fn answers_each_command(rt: HostRuntime) -> Result<(), Fail> {
             "= n1\n= n2\n= e1\n= e2\n=\n! hidden e1\n= e2\n= walk e2\n! hidden e1\n= 2 1\n=\n\
              ! not_hidden e1\n= e1 e2\n= walk e1\n! unknown e3\n",
         ),
+        (
+            "list l\nappend l 4\npush l 3\ninsert_behind i1 9\ninsert_before i1 -9223372036854775808\n\
+             del_item i1\ndel_item i1\ninsert_behind i1 2\ninsert_before i9 2\nclear\ndel_item i2\n",
+            "=\n= i1\n= i2\n= i3\n= i4\n=\n! dead i1\n! dead i1\n! unknown i9\n=\n=\n",
+        ),
+        (
+            "dict d\nqueue q\nlist d\nlist list\nlist i5\npush d 4\npush x 4\nappend q 1\n\
+             push list 9223372036854775808\npush\npush list 1\n",
+            "=\n=\n! taken d\n=\n! syntax 6\n! object d\n! object x\n! object q\n! number 11\n\
+             ! syntax 5\n= i1\n",
+        ),
     ];
     for (script, replies) in rows {
         for piece in [1, 5, 100_000] {

@@ -9,10 +9,13 @@ use Rattle.leda_base.specs.declared.ItemName.TheVariants as items
 use Rattle.script_text.specs.declared.argument.Arg.{Arg}
 use Rattle.script_text.specs.declared.argument.Arg.TheVariants as args
 use Rattle.script_text.specs.declared.form.Form.{Form}
+use Rattle.script_text.specs.declared.form.Form.TheVariants as forms
 use Rattle.script_text.specs.declared.word.Word.{Word}
 use Rattle.script_text.specs.Said.{Said}
 use Rattle.script_text.specs.Table.{forms_of}
+use Rattle.reply_text.specs.declared.refusal.Refusal.{Refusal}
 use Rattle.reply_text.specs.declared.refusal.Refusal.TheVariants as refusals
+use Rattle.object_store.specs.Met as objects
 use Rattle.console_state.specs.declared.order.Rule.{Rule}
 use Rattle.console_state.specs.declared.order.Rule.TheVariants as rules
 use Rattle.console_state.specs.declared.order.Standing.{Standing}
@@ -56,9 +59,9 @@ met : (s : State) (form : Form) (arg : Arg) (later : List Arg)
     → refusal_by s rules.Gone form arg later ≡ None
     → refusal_by s rules.Hidden form arg later ≡ None
     → IsMet s.graph form arg
-met s form (args.Node v) later g h = stands_in s form (items.Node v)
+met s form (args.Node v) later g h = stands_in s form (items.Node v) tt
     (stands (asks_visible form) (standing s (items.Node v)) (items.Node v) g h)
-met s form (args.Edge e) later g h = stands_in s form (items.Edge e)
+met s form (args.Edge e) later g h = stands_in s form (items.Edge e) tt
     (stands (asks_visible form) (standing s (items.Edge e)) (items.Edge e) g h)
 met s form (args.Cell i) later g h = tt
 met s form (args.Name name) later g h = tt
@@ -95,6 +98,92 @@ cleared s read forms args word said again h f a w b =
     let met = all-met s forms args two.0 four.0 in
     subst (λ all. AreMet s.graph (forms_of word) all) (a ∙ sym b)
     (subst (λ forms. AreMet s.graph forms args) (f ∙ ap forms_of (sym w)) met)
+
+-- a test that stands in the way of nothing
+found : (test : Bool) (refusal : Refusal) → cond test None (Some refusal) ≡ None → test ≡ true
+found true refusal h = refl
+found false refusal h = cc
+
+untaken : (test : Bool) (refusal : Refusal) → cond test (Some refusal) None ≡ None → test ≡ false
+untaken true refusal h = cc
+untaken false refusal h = refl
+
+-- an argument of which none of three rules refuses anything
+object-met : (s : State) (form : Form) (arg : Arg) (later : List Arg)
+    → refusal_by s rules.Absent form arg later ≡ None
+    → refusal_by s rules.Stray form arg later ≡ None
+    → refusal_by s rules.Taken form arg later ≡ None
+    → objects.IsMet s.objects form arg later
+object-met s (forms.Object kinds) (args.Node v) later a g t = tt
+object-met s (forms.Object kinds) (args.Edge e) later a g t = tt
+object-met s (forms.Object kinds) (args.Cell i) later a g t = tt
+object-met s (forms.Object kinds) (args.Name name) later a g t = found _ _ a
+object-met s (forms.Object kinds) (args.Num number) later a g t = tt
+object-met s (forms.Object kinds) (args.Label label) later a g t = tt
+object-met s (forms.Object kinds) args.Labels later a g t = tt
+object-met s (forms.Object kinds) (args.File file) later a g t = tt
+object-met s (forms.Object kinds) (args.Mode mode) later a g t = tt
+object-met s (forms.Object kinds) (args.Kept sort) later a g t = tt
+object-met s (forms.Cell kinds) (args.Node v) later a g t = tt
+object-met s (forms.Cell kinds) (args.Edge e) later a g t = tt
+object-met s (forms.Cell kinds) (args.Cell i) later a g t = found _ _ g
+object-met s (forms.Cell kinds) (args.Name name) later a g t = tt
+object-met s (forms.Cell kinds) (args.Num number) later a g t = tt
+object-met s (forms.Cell kinds) (args.Label label) later a g t = tt
+object-met s (forms.Cell kinds) args.Labels later a g t = tt
+object-met s (forms.Cell kinds) (args.File file) later a g t = tt
+object-met s (forms.Cell kinds) (args.Mode mode) later a g t = tt
+object-met s (forms.Cell kinds) (args.Kept sort) later a g t = tt
+object-met s forms.NewName (args.Node v) later a g t = tt
+object-met s forms.NewName (args.Edge e) later a g t = tt
+object-met s forms.NewName (args.Cell i) later a g t = tt
+object-met s forms.NewName (args.Name name) later a g t = untaken _ _ t
+object-met s forms.NewName (args.Num number) later a g t = tt
+object-met s forms.NewName (args.Label label) later a g t = tt
+object-met s forms.NewName args.Labels later a g t = tt
+object-met s forms.NewName (args.File file) later a g t = tt
+object-met s forms.NewName (args.Mode mode) later a g t = tt
+object-met s forms.NewName (args.Kept sort) later a g t = tt
+object-met s (forms.Node sight) arg later a g t = tt
+object-met s (forms.Edge sight) arg later a g t = tt
+object-met s (forms.Element sight) arg later a g t = tt
+object-met s forms.Num arg later a g t = tt
+object-met s forms.NumOrLabels arg later a g t = tt
+object-met s forms.Label arg later a g t = tt
+object-met s forms.OptionalLabel arg later a g t = tt
+object-met s forms.File arg later a g t = tt
+object-met s forms.Mode arg later a g t = tt
+object-met s forms.Kept arg later a g t = tt
+
+-- arguments of which none of them refuses anything
+all-objects-met : (s : State) (forms : List Form) (args : List Arg)
+    → leftmost s rules.Absent forms args ≡ None → leftmost s rules.Stray forms args ≡ None
+    → leftmost s rules.Taken forms args ≡ None → objects.AreMet s.objects forms args
+all-objects-met s [] [] a g t = tt
+all-objects-met s [] (arg ∷ later) a g t = tt
+all-objects-met s (form ∷ forms) [] a g t = tt
+all-objects-met s (form ∷ forms) (arg ∷ later) a g t =
+    let absent = or-none _ _ a in
+    let stray = or-none _ _ g in
+    let taken = or-none _ _ t in
+    (object-met s form arg later absent.0 stray.0 taken.0,
+    all-objects-met s forms later absent.1 stray.1 taken.1)
+
+-- nothing stands in the way of a command on objects
+pub objects-cleared : (s : State) (read : Word) (forms : List Form) (args : List Arg) (word : Word)
+    (said : Said) (again : List Arg) → None ≡ refusal_among s read forms args
+    → forms ≡ forms_of said.word → args ≡ said.args → word ≡ said.word → again ≡ said.args
+    → objects.AreMet s.objects (forms_of word) again
+objects-cleared s read forms args word said again h f a w b =
+    let one = or-none _ _ (sym h) in
+    let two = or-none _ _ one.1 in
+    let three = or-none _ _ two.1 in
+    let four = or-none _ _ three.1 in
+    let five = or-none _ _ four.1 in
+    let six = or-none _ _ five.1 in
+    let met = all-objects-met s forms args one.0 three.0 six.0 in
+    subst (λ all. objects.AreMet s.objects (forms_of word) all) (a ∙ sym b)
+    (subst (λ forms. objects.AreMet s.objects forms args) (f ∙ ap forms_of (sym w)) met)
 
 -- where the kind isn't wrong, it is the one asked for
 kind-is : (asked directed : Bool) → cond (asked && not directed) (Some refusals.Undirected) None ≡ None

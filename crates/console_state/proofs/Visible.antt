@@ -4,7 +4,7 @@ use Rattle.std.specs.List.{list_all}
 use Rattle.std.proofs.lemmas.Bool.{leb-true}
 use Rattle.std.proofs.lemmas.Bool.Decides.{nat_tests}
 use Rattle.std.specs.Bool.{MatchBool}
-use Rattle.std.specs.Prelude.{nat_le, if◌then◌else◌, IsTrue, is_ok, OnOk, IfErr, Result, Ok, Err}
+use Rattle.std.specs.Prelude.{nat_le, if◌then◌else◌, IsTrue, ⊤, is_ok, OnOk, IfErr, Result, Ok, Err}
 use Rattle.item_pool.specs.Contents.{WhyGone}
 use Rattle.item_pool.specs.declared.pool.Gone.{Gone}
 use Rattle.item_pool.specs.declared.pool.Gone.TheVariants as gone
@@ -61,24 +61,30 @@ stands_live true shows given live = refl
 stands_live false shows true live = absurd live
 stands_live false shows false live = absurd live
 
--- an item that is there, and one that is visible
+-- the item is one of the graph
+abbrev pub IsElement : ItemName → Type 0
+IsElement (items.Node v) = ⊤
+IsElement (items.Edge e) = ⊤
+IsElement (items.Cell i) = ⊥
+
+-- an item of the graph that is there, and one that is visible
 module _ (s : State) where
-  there : (x : ItemName) → IsLive (standing s x) → IsThere s.graph x
-  there (items.Node v) live = listed_has v s.graph.nodes (stands_live _ _ _ live)
-  there (items.Edge e) live = listed_has e s.graph.edges (stands_live _ _ _ live)
-  there (items.Cell i) live = absurd live
+  there : (x : ItemName) → IsElement x → IsLive (standing s x) → IsThere s.graph x
+  there (items.Node v) is live = listed_has v s.graph.nodes (stands_live _ _ _ live)
+  there (items.Edge e) is live = listed_has e s.graph.edges (stands_live _ _ _ live)
+  there (items.Cell i) is live = absurd is
 
-  visible : (x : ItemName) → standing s x ≡ Visible → AreVisible s.graph (x ∷ [])
-  visible (items.Node v) e = let r = stands_visible _ _ _ e in (listed_has v s.graph.nodes r.0, r.1, tt)
-  visible (items.Edge v) e = let r = stands_visible _ _ _ e in (listed_has v s.graph.edges r.0, r.1, tt)
-  visible (items.Cell i) e = cc
+  visible : (x : ItemName) → IsElement x → standing s x ≡ Visible → AreVisible s.graph (x ∷ [])
+  visible (items.Node v) is e = let r = stands_visible _ _ _ e in (listed_has v s.graph.nodes r.0, r.1, tt)
+  visible (items.Edge v) is e = let r = stands_visible _ _ _ e in (listed_has v s.graph.edges r.0, r.1, tt)
+  visible (items.Cell i) is e = absurd is
 
-  by_test : (test : Bool) (x : ItemName) → MatchBool test (standing s x ≡ Visible) (IsLive (standing s x)) → MatchBool test (AreVisible s.graph (x ∷ [])) (IsThere s.graph x)
-  by_test true x h = visible x h
-  by_test false x h = there x h
+  by_test : (test : Bool) (x : ItemName) → IsElement x → MatchBool test (standing s x ≡ Visible) (IsLive (standing s x)) → MatchBool test (AreVisible s.graph (x ∷ [])) (IsThere s.graph x)
+  by_test true x is h = visible x is h
+  by_test false x is h = there x is h
 
-  pub stands_in : (form : Form) (x : ItemName) → StandsFor form (standing s x) → StandsIn s.graph form x
-  stands_in form x h = by_test (asks_visible form) x h
+  pub stands_in : (form : Form) (x : ItemName) → IsElement x → StandsFor form (standing s x) → StandsIn s.graph form x
+  stands_in form x is h = by_test (asks_visible form) x is h
 
 pub both_visible : (g : GraphState) (x y : ItemName) → AreVisible g (x ∷ []) → AreVisible g (y ∷ []) → AreVisible g (x ∷ y ∷ [])
 both_visible g x y a b = (a.0, a.1, b)
@@ -113,12 +119,15 @@ ungiven made number out = grind (arith, nat_tests)
 pub stands_there : (number : ℕ) (numbers : List ℕ) (shows given : Bool) → Has number numbers → stands true shows true ≡ stands (is_listed number numbers) shows given
 stands_there number numbers shows given i = subst (λ b. stands true shows true ≡ stands b shows given) (sym (has_listed number numbers i)) refl
 
-pub stands_gone : (number made : ℕ) (numbers : List ℕ) (shows : Bool) (why : Gone) → (Has number numbers → ⊥) → WhyGone made number why → standing_of why ≡ stands (is_listed number numbers) shows (is_given made number)
-stands_gone number made numbers shows why out w = subst (λ b. standing_of why ≡ stands b shows (is_given made number)) (sym (unlisted number numbers out)) (by_given why w)
+pub stands_unlisted : (number made : ℕ) (listed shows : Bool) (why : Gone) → listed ≡ false → WhyGone made number why → standing_of why ≡ stands listed shows (is_given made number)
+stands_unlisted number made listed shows why out w = subst (λ b. standing_of why ≡ stands b shows (is_given made number)) (sym out) (by_given why w)
   where
     by_given : (why : Gone) → WhyGone made number why → standing_of why ≡ (if is_given made number then Dead else Unknown)
     by_given gone.Dead w = subst (λ b. Dead ≡ (if b then Dead else Unknown)) (sym (given made number w.0 w.1)) refl
     by_given gone.Unknown w = subst (λ b. Unknown ≡ (if b then Dead else Unknown)) (sym (ungiven made number w)) refl
+
+pub stands_gone : (number made : ℕ) (numbers : List ℕ) (shows : Bool) (why : Gone) → (Has number numbers → ⊥) → WhyGone made number why → standing_of why ≡ stands (is_listed number numbers) shows (is_given made number)
+stands_gone number made numbers shows why out w = stands_unlisted number made (is_listed number numbers) shows why (unlisted number numbers out) w
 
 -- an edge shows exactly where a look at it is answered
 pub answered_shows : (g : GraphState) (e : ℕ) (answer : Result NodeItem LookRefusal) → OnOk answer (AreVisible g (items.Edge e ∷ [])) → IfErr answer (RefusesLook g (items.Edge e ∷ [])) → IsThere g (items.Edge e) → is_ok answer ≡ shows_edge g e

@@ -7,31 +7,24 @@ use Rattle.script_text.specs.declared.argument.Arg.{Arg}
 use Rattle.script_text.specs.declared.argument.Arg.TheVariants as args
 use Rattle.script_text.specs.declared.form.Form.{Form}
 use Rattle.script_text.specs.declared.form.Form.TheVariants as forms
-use Rattle.script_text.specs.declared.form.Kinds.{Kinds}
 use Rattle.script_text.specs.declared.form.Kinds.TheVariants as kinds
 use Rattle.script_text.specs.declared.form.Sight.TheVariants as sights
 use Rattle.script_text.specs.declared.word.LookWord.TheVariants as looks
 use Rattle.script_text.specs.declared.word.QueryWord.TheVariants as queries
 use Rattle.script_text.specs.declared.word.Word.{Word}
-use Rattle.script_text.specs.declared.word.Word.TheVariants.{Edit, Look, File, Query}
+use Rattle.script_text.specs.declared.word.Word.TheVariants.{Edit, Look, File, Object, Query}
 use Rattle.script_text.specs.Said.{Said}
 use Rattle.script_text.specs.Table.{forms_of}
 use Rattle.reply_text.specs.declared.refusal.ObjectName.TheVariants as objects
 use Rattle.reply_text.specs.declared.refusal.Refusal.{Refusal}
 use Rattle.reply_text.specs.declared.refusal.Refusal.TheVariants as refusals
+use Rattle.object_store.specs.Met.{asked}
 use Rattle.console_state.specs.declared.order.Rule.{Rule}
 use Rattle.console_state.specs.declared.order.Rule.TheVariants as rules
 use Rattle.console_state.specs.declared.order.Standing.{Standing}
 use Rattle.console_state.specs.declared.order.Standing.TheVariants as stands
 use Rattle.console_state.specs.State.{State}
 use Rattle.console_state.specs.Views.{standing, has_object, holds_cell, is_directed}
-
--- the kinds that are asked for: where these are those of values of the next argument, by what that
--- is
-abbrev pub asked : Kinds → List Arg → Kinds
-asked kinds.ElementValues (args.Node v ∷ later) = kinds.NodeValues
-asked kinds.ElementValues (args.Edge e ∷ later) = kinds.EdgeValues
-asked kinds later = kinds
 
 -- no object of the kinds that are asked for has the name
 abbrev pub absent_object : State → Form → Arg → List Arg → Option Refusal
@@ -106,6 +99,7 @@ asks_directed (Look looks.InEdges) = true
 asks_directed (Look looks.FaceSucc) = true
 asks_directed (Look word) = false
 asks_directed (File word) = false
+asks_directed (Object word) = false
 asks_directed (Query queries.Reach) = true
 
 -- the graph is of the wrong kind

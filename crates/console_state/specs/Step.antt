@@ -4,15 +4,17 @@ use Rattle.leda_edge.specs.Stored.{Stored}
 use Rattle.script_text.specs.declared.argument.Arg.{Arg}
 use Rattle.script_text.specs.declared.word.EditWord.{EditWord}
 use Rattle.script_text.specs.declared.word.LookWord.{LookWord}
+use Rattle.script_text.specs.declared.word.ObjectWord.{ObjectWord}
 use Rattle.script_text.specs.declared.word.QueryWord.{QueryWord}
 use Rattle.script_text.specs.declared.word.Word.{Word}
-use Rattle.script_text.specs.declared.word.Word.TheVariants.{Edit, Look, File, Query}
+use Rattle.script_text.specs.declared.word.Word.TheVariants.{Edit, Look, File, Object, Query}
 use Rattle.script_text.specs.Said.{Said}
 use Rattle.script_text.specs.Table.{may_lack_memory}
 use Rattle.reply_text.specs.declared.refusal.Refusal.{Refusal}
 use Rattle.reply_text.specs.declared.reply.Reply.{Reply}
 use Rattle.reply_text.specs.Outcome.{Outcome, done, refused, LacksMemory, IsQuiet}
-use Rattle.console_state.specs.State.{State, on_graph}
+use Rattle.object_store.specs.Commands.{objects_done}
+use Rattle.console_state.specs.State.{State, on_graph, on_objects}
 use Rattle.console_state.specs.Graph.{graph_edited}
 use Rattle.console_state.specs.Look.{Told, graph_looked}
 use Rattle.console_state.specs.Files.{Exchanges}
@@ -32,20 +34,18 @@ told s (Err refusal) = refused s refusal
 abbrev pub looked : LookWord → List Arg → State → Option (Outcome State)
 looked word args s = option_map (told s) (graph_looked word args s.graph)
 
+-- a command on objects by its word, if these are arguments that the word takes
+abbrev pub objects_changed : ObjectWord → List Arg → State → Option (Outcome State)
+objects_changed word args s = option_map (on_objects s) (objects_done word args s.objects)
+
 -- the session with the answer to a query kept for a later check; that to `reach` isn't kept
 abbrev pub with_kept : Said → Reply → State → State
 with_kept said reply s = s
 
--- the edit leads to the outcome that its word says; no file changes
-pub record Edits (word : EditWord) (args : List Arg) (s : State) (f : Stored)
+-- the command leads to the outcome that its word says; no file changes
+pub record Yields (given : Option (Outcome State)) (f : Stored)
     (reply : Reply) (s' : State) (f' : Stored) : Type 0 where
-  pub outcome : edited word args s ≡ Some (s', reply)
-  pub files : f' ≡ f
-
--- the look is answered as its word says; nothing changes
-pub record LooksAt (word : LookWord) (args : List Arg) (s : State) (f : Stored)
-    (reply : Reply) (s' : State) (f' : Stored) : Type 0 where
-  pub outcome : looked word args s ≡ Some (s', reply)
+  pub outcome : given ≡ Some (s', reply)
   pub files : f' ≡ f
 
 -- the query is answered, and its answer is kept; nothing else changes
@@ -63,9 +63,10 @@ pub record IsRefusedBy (refusal : Refusal) (s : State) (f : Stored)
 
 -- what a command by its word does, where nothing stands in its way
 abbrev pub Does : Word → List Arg → State → Stored → Reply → State → Stored → Type 0
-Does (Edit word) args s f reply s' f' = Edits word args s f reply s' f'
-Does (Look word) args s f reply s' f' = LooksAt word args s f reply s' f'
+Does (Edit word) args s f reply s' f' = Yields (edited word args s) f reply s' f'
+Does (Look word) args s f reply s' f' = Yields (looked word args s) f reply s' f'
 Does (File word) args s f reply s' f' = Exchanges word args s f reply s' f'
+Does (Object word) args s f reply s' f' = Yields (objects_changed word args s) f reply s' f'
 Does (Query word) args s f reply s' f' = Asks word args s f reply s' f'
 
 -- the refusal, if there is one, or else what the command does

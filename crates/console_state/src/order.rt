@@ -4,7 +4,8 @@ ghost use Rattle.std.specs.Bool.{OnTrue};
 ghost use Rattle.std.specs.List.{AllZip};
 ghost use Rattle.script_text.specs.Form.{keeps_bytes, IsOfForm};
 ghost use Rattle.script_text.specs.Table.{keeps_any};
-ghost use Rattle.console_state.specs.Order.{asked, item_of as the_item, absent_object, gone_item, stray_cell, asks_visible, hidden_item, taken_name, refusal_by, leftmost, asks_directed, wrong_kind, refusal_among};
+ghost use Rattle.object_store.specs.Met.{asked};
+ghost use Rattle.console_state.specs.Order.{item_of as the_item, absent_object, gone_item, stray_cell, asks_visible, hidden_item, taken_name, refusal_by, leftmost, asks_directed, wrong_kind, refusal_among};
 ghost use Rattle.console_state.specs.Views.{standing};
 ghost use Rattle.console_state.specs.Clear.{StandsFor, IsClear, AreClear};
 ghost use Rattle.console_state.specs.Obstacles.{refusal_of, IsNameOf};
@@ -286,6 +287,6 @@ fn asks_directed(word: Word) -> bool
 {
     match word {
         Word::Look(LookWord::InEdges | LookWord::FaceSucc) | Word::Query(QueryWord::Reach) => true,
-        Word::Edit(_) | Word::Look(_) | Word::File(_) => false,
+        Word::Edit(_) | Word::Look(_) | Word::File(_) | Word::Object(_) => false,
     }
 }

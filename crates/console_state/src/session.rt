@@ -7,6 +7,7 @@ ghost use Rattle.script_text.specs.declared.argument.Arg.TheVariants as args;
 ghost use Rattle.script_text.specs.declared.word.QueryWord.TheVariants as queries;
 ghost use Rattle.script_text.specs.declared.word.Word.TheVariants as words;
 ghost use Rattle.script_text.specs.Table.{forms_of, may_lack_memory, IsWhole};
+ghost use Rattle.object_store.specs.Met.{AreMet as ObjectsAreMet};
 ghost use Rattle.reply_text.specs.Text.{IsNamed, IsShort};
 ghost use Rattle.reply_text.specs.Outcome.{LacksMemory, IsQuiet};
 ghost use Rattle.console_state.specs.State.{empty};
@@ -16,7 +17,7 @@ ghost use Rattle.console_state.specs.Obstacles.{refusal_of, HasName};
 ghost use Rattle.console_state.specs.Query.{Answers};
 ghost use Rattle.console_state.specs.Refused.{standing_of};
 ghost use Rattle.console_state.specs.Shown.{IsShown};
-ghost use Rattle.console_state.specs.Step.{edited, looked, with_kept, Step, IsQuietStep};
+ghost use Rattle.console_state.specs.Step.{edited, looked, objects_changed, with_kept, Step, IsQuietStep};
 
 use crate::graph::edit;
 use crate::look::look;
@@ -27,8 +28,9 @@ use graph_search::reach;
 use hide_restore::{Shown, net};
 use leda_base::{ItemName, NoMemory, Row};
 use leda_edge::Store;
+use object_store::Objects;
 use reply_text::{Answer, ObjectName, Refusal, Reply};
-use script_text::{Arg, Command, EditWord, Kinds, LookWord, QueryWord, Word};
+use script_text::{Arg, Command, EditWord, Kinds, LookWord, ObjectWord, QueryWord, Word};
 use std::alloc::Global;
 use std::marker::Model;
 
@@ -37,6 +39,7 @@ use std::marker::Model;
 pub struct Session {
     pub(crate) alloc: Global,
     pub(crate) graph: Graph,
+    objects: Objects,
     /// The net of the visible graph, from a query to the next edit.
     pub(crate) shown: Option<Shown>,
 }
@@ -50,19 +53,20 @@ impl Model for Session {
 
     ghost coded = { session_code };
 
-    ghost view = { λ a. record { graph = a.graph } };
+    ghost view = { λ a. record { graph = a.graph; objects = a.objects } };
 
     ghost invariant = { λ a. IfSome a.shown (IsShown a.graph) };
 }
 
 impl Session {
-    /// A session with an empty directed graph. It takes no memory.
+    /// A session with an empty directed graph and no objects. It takes no memory.
     pub fn new(alloc: Global) -> Session
         ensures { result ≡ empty }
     {
         Session {
             alloc,
             graph: Graph::new(alloc, Kind::Directed),
+            objects: Objects::new(alloc),
             shown: None,
         }
     }
@@ -95,6 +99,7 @@ impl Session {
             Word::Edit(word) => self.edit(word, command.args()),
             Word::Look(word) => self.look(word, command.args()),
             Word::File(word) => self.exchange(word, command.args(), files),
+            Word::Object(word) => self.change_objects(word, command.args()),
             Word::Query(word) => self.query(word, command.args()),
         }
     }
@@ -133,6 +138,18 @@ impl Session {
             Ok(line) => Reply::Line(line),
             Err(refusal) => Reply::Refused(refusal),
         }
+    }
+
+    /// A command on objects that nothing stands in the way of.
+    fn change_objects(&mut self, word: ObjectWord, args: &[Arg]) -> Reply
+        requires whole { IsWhole (record { word = Word.Object word; args = args.now }) }
+        requires met { ObjectsAreMet self.old.objects (forms_of (Word.Object word)) args.now }
+        ensures does { LacksMemory (may_lack_memory (Word.Object word)) self.old result self.new
+            ⊎ (objects_changed word args.now self.old ≡ Some (self.new, result)) }
+        ensures named { IsNamed result }
+        ensures quiet { IsQuiet (may_lack_memory (Word.Object word)) self.old result self.new }
+    {
+        self.objects.apply(word, args)
     }
 
     /// The reply to a query that nothing stands in the way of.
@@ -227,7 +244,7 @@ impl Session {
         }
     }
 
-    /// How an item stands. No container has items yet.
+    /// How an item stands.
     pub(crate) fn standing(&self, item: ItemName) -> Standing
         ensures { result ≡ standing self.now item }
     {
@@ -240,22 +257,25 @@ impl Session {
                 Ok(edge) => seen_if(self.graph.source(edge).is_ok()),
                 Err(why) => gone(why),
             },
-            ItemName::Cell(_) => Standing::Unknown,
+            ItemName::Cell(number) => match self.objects.find_cell(number) {
+                Ok(()) => Standing::Visible,
+                Err(why) => gone(why),
+            },
         }
     }
 
-    /// Whether an object of these kinds has the name. There are no objects yet.
-    pub(crate) fn has_object(&self, _kinds: Kinds, _name: &[u8]) -> bool
-        ensures { result ≡ has_object self.now _kinds _name.now }
+    /// Whether an object of these kinds has the name.
+    pub(crate) fn has_object(&self, kinds: Kinds, name: &[u8]) -> bool
+        ensures { result ≡ has_object self.now kinds name.now }
     {
-        false
+        self.objects.has_object(kinds, name)
     }
 
     /// Whether the item is one of a container of these kinds.
-    pub(crate) fn holds_cell(&self, _kinds: Kinds, _number: u32) -> bool
-        ensures { result ≡ holds_cell self.now _kinds _number }
+    pub(crate) fn holds_cell(&self, kinds: Kinds, number: u32) -> bool
+        ensures { result ≡ holds_cell self.now kinds number }
     {
-        false
+        self.objects.holds_cell(kinds, number)
     }
 
     pub(crate) fn is_directed(&self) -> bool

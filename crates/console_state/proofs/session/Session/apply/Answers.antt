@@ -1,5 +1,5 @@
-use Rattle.script_text.specs.declared.word.Word.TheVariants.{Edit, Look, Query}
-use Rattle.console_state.proofs.Cleared.{cleared, kind-met}
+use Rattle.script_text.specs.declared.word.Word.TheVariants.{Edit, Look, Object, Query}
+use Rattle.console_state.proofs.Cleared.{cleared, objects-cleared, kind-met}
 use Rattle.console_state.proofs.session.Session.apply.Goals as goal
 
 pub edit-requires-clause-met : goal.edit-requires-clause-met
@@ -24,3 +24,9 @@ pub look-requires-clause-kind : goal.look-requires-clause-kind
 look-requires-clause-kind g c = kind-met c.args.self.now c.word.result c.forms.result.now
     c.args-2.result.now (Look c.in-Look.word) c.args.command.now
     c.in_default.ensures.first c.word.ensures c.in-Look.ensures
+
+pub change_objects-requires-clause-met : goal.change_objects-requires-clause-met
+change_objects-requires-clause-met g c = objects-cleared c.args.self.now c.word.result
+    c.forms.result.now c.args-2.result.now (Object c.in-Object.word) c.args.command.now
+    c.args-in-Object.result.now c.in_default.ensures.first c.forms.ensures c.args-2.ensures
+    c.in-Object.ensures c.args-in-Object.ensures
