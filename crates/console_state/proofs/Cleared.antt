@@ -165,9 +165,10 @@ all-objects-met s (form ∷ forms) [] a g t = tt
 all-objects-met s (form ∷ forms) (arg ∷ later) a g t =
     let absent = or-none _ _ a in
     let stray = or-none _ _ g in
-    let taken = or-none _ _ t in
-    (object-met s form arg later absent.0 stray.0 taken.0,
-    all-objects-met s forms later absent.1 stray.1 taken.1)
+    let taken = or-none _ _ t in (
+      object-met s form arg later absent.0 stray.0 taken.0,
+      all-objects-met s forms later absent.1 stray.1 taken.1,
+    )
 
 -- nothing stands in the way of a command on objects
 pub objects-cleared : (s : State) (read : Word) (forms : List Form) (args : List Arg) (word : Word)

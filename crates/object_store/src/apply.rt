@@ -38,8 +38,10 @@ impl Objects {
 
     /// A command that names an object alone.
     fn apply_to(&mut self, word: ObjectWord, name: &[u8]) -> Reply
-        requires whole { IsWhole (record { word = commands.Object word;
-            args = args.Name name.now ∷ [] }) }
+        requires whole { IsWhole (record {
+          word = commands.Object word;
+          args = args.Name name.now ∷ [];
+        }) }
         requires met { AreMet self.old (forms_of (commands.Object word)) (args.Name name.now ∷ []) }
         ensures does { Leads (may_lack_memory (commands.Object word))
             (objects_done word (args.Name name.now ∷ []) self.old) self.old result self.new }
@@ -57,8 +59,10 @@ impl Objects {
 
     /// A command that names an object, and then a number.
     fn apply_with(&mut self, word: ObjectWord, name: &[u8], value: i64) -> Reply
-        requires whole { IsWhole (record { word = commands.Object word;
-            args = args.Name name.now ∷ args.Num value ∷ [] }) }
+        requires whole { IsWhole (record {
+          word = commands.Object word;
+          args = args.Name name.now ∷ args.Num value ∷ [];
+        }) }
         requires met { AreMet self.old (forms_of (commands.Object word))
             (args.Name name.now ∷ args.Num value ∷ []) }
         ensures does { Leads (may_lack_memory (commands.Object word))
@@ -77,8 +81,10 @@ impl Objects {
 
     /// A command that names an item alone.
     fn apply_at(&mut self, word: ObjectWord, number: u32) -> Reply
-        requires whole { IsWhole (record { word = commands.Object word;
-            args = args.Cell number ∷ [] }) }
+        requires whole { IsWhole (record {
+          word = commands.Object word;
+          args = args.Cell number ∷ [];
+        }) }
         requires met { AreMet self.old (forms_of (commands.Object word)) (args.Cell number ∷ []) }
         ensures does { Leads (may_lack_memory (commands.Object word))
             (objects_done word (args.Cell number ∷ []) self.old) self.old result self.new }
@@ -94,8 +100,10 @@ impl Objects {
 
     /// A command that names an item, and then a number.
     fn apply_beside(&mut self, word: ObjectWord, number: u32, value: i64) -> Reply
-        requires whole { IsWhole (record { word = commands.Object word;
-            args = args.Cell number ∷ args.Num value ∷ [] }) }
+        requires whole { IsWhole (record {
+          word = commands.Object word;
+          args = args.Cell number ∷ args.Num value ∷ [];
+        }) }
         requires met { AreMet self.old (forms_of (commands.Object word))
             (args.Cell number ∷ args.Num value ∷ []) }
         ensures does { Leads (may_lack_memory (commands.Object word))

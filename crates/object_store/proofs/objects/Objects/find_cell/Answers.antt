@@ -15,8 +15,9 @@ returns-in-Ok c =
 
 pub returns-in-Err : goal.returns-in-Err
 returns-in-Err c =
-    let a = c.self.inside in
-    (ap (λ (s : ObjectState). is_live s c.args.number) (sym c.self.view_is)
-    ∙ live_is a.slots.items a.cells c.self.invariant c.args.number
-    ∙ ap (λ o. is_some o) c.in-Err.ensures.0,
-    subst (λ (s : ObjectState). WhyGone s.made c.args.number c.in-Err.why) c.self.view_is c.in-Err.ensures.1)
+    let a = c.self.inside in (
+      ap (λ (s : ObjectState). is_live s c.args.number) (sym c.self.view_is)
+          ∙ live_is a.slots.items a.cells c.self.invariant c.args.number
+          ∙ ap (λ o. is_some o) c.in-Err.ensures.0,
+      subst (λ (s : ObjectState). WhyGone s.made c.args.number c.in-Err.why) c.self.view_is c.in-Err.ensures.1,
+    )
