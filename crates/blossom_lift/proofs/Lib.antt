@@ -1,0 +1,9 @@
+pub mod Ranks
+pub mod Degrees
+pub mod Views
+pub mod Paths
+pub mod Lifts
+pub mod Contracting
+pub mod Places
+pub mod LiftedCovers
+pub mod Steps
