@@ -7,6 +7,7 @@
 
 mod calls;
 mod files;
+mod mem_store;
 mod memory;
 mod put;
 mod sink;
@@ -16,6 +17,7 @@ mod streams;
 mod sure;
 
 pub use files::FileStore;
+pub use mem_store::MemStore;
 pub use memory::{MemSink, MemSource};
 pub use put::put_all;
 pub use sink::Sink;
