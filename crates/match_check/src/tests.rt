@@ -29,6 +29,21 @@ fn each_condition_is_found_where_it_is_broken_first(rt: HostRuntime) -> Result<(
         ),
         (
             [4, 1].as_slice(),
+            [1, 4_294_967_295, 4_294_967_295, 9, 9, 0].as_slice(),
+            no(Cond::Size, 0),
+        ),
+        (
+            [4, 1].as_slice(),
+            [1, 4_294_967_295, 4_294_967_295, 9, 8, 8].as_slice(),
+            no(Cond::Size, 0),
+        ),
+        (
+            [4, 1].as_slice(),
+            [1, 4_294_967_295, 4_294_967_295, 9, 8, 2].as_slice(),
+            Verdict::Yes,
+        ),
+        (
+            [4, 1].as_slice(),
             [1, 9, 9, 7, 8, 2].as_slice(),
             Verdict::Yes,
         ),

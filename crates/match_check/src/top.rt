@@ -14,8 +14,8 @@ use std::alloc::Global;
 /// Whether an answer on a maximum matching is right: yes where all conditions of a right answer
 /// hold, else the first condition that is broken, in their order, and its least place.
 ///
-/// It takes any answer, with its edges in any order. In time and memory linear in the net, the
-/// answer and the greatest label.
+/// It takes any answer, with its edges in any order. In time and memory linear in the net and the
+/// answer; labels that are greater than nodes are many are sorted besides.
 ///
 /// # Errors
 /// `NoMemory` where the room isn't given.
