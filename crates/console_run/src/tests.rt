@@ -132,6 +132,14 @@ fn answers_each_command(rt: HostRuntime) -> Result<(), Fail> {
             "=\n=\n! taken d\n=\n! syntax 6\n! object d\n! object x\n! object q\n! number 11\n\
              ! syntax 5\n= i1\n",
         ),
+        (
+            "list l\nappend l 4\npush l 3\ninsert_behind i1 9\nsize l\ndel_item i1\ncyclic_succ i3\n\
+             cyclic_pred i3\ncontents i1\nassign i3 -7\ncontents i3\nmove_to_front i3\nreverse_items l\n\
+             cyclic_succ i2\nkey i2\nprio i3\nchange_inf i3 1\ndrop l\nsize l\ncontents i2\n\
+             queue l\nsize l\ncontents i4\n",
+            "=\n= i1\n= i2\n= i3\n= 3\n=\n= i2\n= i2\n! dead i1\n=\n= -7\n=\n=\n= i3\n\
+             ! object i2\n! object i3\n! object i3\n=\n! object l\n! dead i2\n=\n= 0\n! unknown i4\n",
+        ),
     ];
     for (script, replies) in rows {
         for piece in [1, 5, 100_000] {

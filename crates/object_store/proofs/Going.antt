@@ -65,7 +65,7 @@ queue_value s q = queue_find s (finmap.entries q.live) ∙ ap (λ o. option_map 
 pub queue_has : (s : ℕ) (o : Held) (q : Queued Entry) → o ≡ held.Queue q → HasIt s o → finmap.get q.live s ≡ None → ⊥
 queue_has s o q is h none = none_some h.0 (ap (λ v. option_map queue_holds v) (sym none) ∙ sym (queue_value s q) ∙ ap (λ (p : Held). value_at s (inner p)) (sym is) ∙ h.1)
 
-queue_tests : (s : ℕ) (es : List (ℕ × (ℤ × Entry))) → AllTests queue_cell (λ e. eq_by_cmp nat_cmp s e.0) s es
+pub queue_tests : (s : ℕ) (es : List (ℕ × (ℤ × Entry))) → AllTests queue_cell (λ e. eq_by_cmp nat_cmp s e.0) s es
 queue_tests s [] = tt
 queue_tests s (e ∷ es) = (same_key s e.0, queue_tests s es)
 
@@ -143,7 +143,7 @@ later_found : (e : DictEntry) (whole es : List DictEntry) → T (is_sorted int_c
 later_found e whole [] sorted h = tt
 later_found e whole (f ∷ es) sorted h = (find_later f.0 f.1 e whole sorted h.0, later_found e whole es sorted h.1)
 
-all_found : (es : List DictEntry) → T (is_sorted int_cmp es) → AllFound es es
+pub all_found : (es : List DictEntry) → T (is_sorted int_cmp es) → AllFound es es
 all_found [] sorted = tt
 all_found (e ∷ es) sorted = (find_first e es, later_found e es es sorted (all_found es (rear (below_all int_cmp e.0 es) (is_sorted int_cmp es) sorted)))
 
@@ -175,3 +175,13 @@ dict_leaves s o d t k x is h = subst (λ (w : Held). Leaves s w (held.Dict t)) (
       ∙ ap (map dict_cell) (entries_remove int_cmp_total finmap.int_cmp-IsAntisymmetric d.triples k)
       ∙ filter_without dict_cell (λ e. eq_by_cmp int_cmp k e.0) s (finmap.entries d.triples) (dict_tests d s k x h.held h.alone (finmap.entries d.triples) (all_found (finmap.entries d.triples) (finmap.entries_sorted d.triples)));
 })
+
+-- ---- what an object has, its container doesn't lack
+pub list_lacks : (s : ℕ) (l : Items Entry) (c : Cell) → value_at s (inner (held.List l)) ≡ Some c → value_at s l.pairs ≡ None → ⊥
+list_lacks s l c at none = list_has s (held.List l) l refl (c, at) none
+
+pub dict_lacks : (s : ℕ) (d : DictOf Entry) (c : Cell) → value_at s (inner (held.Dict d)) ≡ Some c → HasNo d s → ⊥
+dict_lacks s d c at none = dict_has s (held.Dict d) d refl (c, at) none
+
+pub queue_lacks : (s : ℕ) (q : Queued Entry) (c : Cell) → value_at s (inner (held.Queue q)) ≡ Some c → finmap.get q.live s ≡ None → ⊥
+queue_lacks s q c at none = queue_has s (held.Queue q) q refl (c, at) none

@@ -65,3 +65,8 @@ listed o = listed_by o.kind o.cells
 -- an item as it is shown
 abbrev pub shown : Cell → CellShow
 shown c = record { number = c.0; values = c.1 }
+
+-- what an item holds once its value or its information is another one
+abbrev pub written : ObjectKind → ℤ → List ℤ → List ℤ
+written sorts.List x values = x ∷ []
+written kind x values = head_of values ∷ x ∷ []

@@ -103,6 +103,10 @@ abbrev pub objects_done : ObjectWord → List Arg → ObjectState → Option (Ou
 objects_done words.MakeList (args.Name x ∷ []) s = Some (make sorts.List x s)
 objects_done words.MakeDict (args.Name x ∷ []) s = Some (make sorts.Dict x s)
 objects_done words.MakeQueue (args.Name x ∷ []) s = Some (make sorts.Queue x s)
+objects_done words.DropObject (args.Name x ∷ []) s =
+    on_object s kinds.Any x (λ o. done (without_object x s) Empty)
+objects_done words.Size (args.Name x ∷ []) s =
+    on_object s kinds.Container x (λ o. done s (Num (pos (length o.cells))))
 objects_done words.Push (args.Name x ∷ args.Num v ∷ []) s =
     on_object s kinds.List x (λ o. enters x o (next (v ∷ []) s ∷ o.cells) s)
 objects_done words.Append (args.Name x ∷ args.Num v ∷ []) s =
@@ -111,6 +115,34 @@ objects_done words.InsertBefore (args.Cell i ∷ args.Num v ∷ []) s =
     on_cell s kinds.List i (λ x o old. enters x o (pairs_before i (next (v ∷ []) s) o.cells) s)
 objects_done words.InsertBehind (args.Cell i ∷ args.Num v ∷ []) s =
     on_cell s kinds.List i (λ x o old. enters x o (pairs_behind i (next (v ∷ []) s) o.cells) s)
+objects_done words.Contents (args.Cell i ∷ []) s =
+    on_cell s kinds.List i (λ x o v. done s (Num (head_of v)))
+objects_done words.Assign (args.Cell i ∷ args.Num v ∷ []) s =
+    on_cell s kinds.List i (λ x o old.
+    done (with_cells x o (pairs_with i (v ∷ []) o.cells) s) Empty)
+objects_done words.CyclicSucc (args.Cell i ∷ []) s =
+    on_cell s kinds.List i (λ x o v.
+    done s (number_line (first_of (behind i o.cells ++ before i o.cells ++ (i, v) ∷ []))))
+objects_done words.CyclicPred (args.Cell i ∷ []) s =
+    on_cell s kinds.List i (λ x o v.
+    done s (number_line (last_of ((i, v) ∷ behind i o.cells ++ before i o.cells))))
+objects_done words.MoveToFront (args.Cell i ∷ []) s =
+    on_cell s kinds.List i (λ x o v.
+    done (with_cells x o ((i, v) ∷ pairs_without i o.cells) s) Empty)
+objects_done words.MoveToRear (args.Cell i ∷ []) s =
+    on_cell s kinds.List i (λ x o v.
+    done (with_cells x o (pairs_without i o.cells ++ (i, v) ∷ []) s) Empty)
+objects_done words.ReverseItems (args.Name x ∷ []) s =
+    on_object s kinds.List x (λ o. done (with_cells x o (reverse o.cells) s) Empty)
+objects_done words.Key (args.Cell i ∷ []) s =
+    on_cell s kinds.Dict i (λ x o v. done s (Num (head_of v)))
+objects_done words.Prio (args.Cell i ∷ []) s =
+    on_cell s kinds.Queue i (λ x o v. done s (Num (head_of v)))
+objects_done words.Inf (args.Cell i ∷ []) s =
+    on_cell s kinds.DictOrQueue i (λ x o v. done s (Num (inf_of v)))
+objects_done words.ChangeInf (args.Cell i ∷ args.Num v ∷ []) s =
+    on_cell s kinds.DictOrQueue i (λ x o old.
+    done (with_cells x o (pairs_with i (head_of old ∷ v ∷ []) o.cells) s) Empty)
 objects_done words.DelItem (args.Cell i ∷ []) s =
     on_cell s kinds.Container i (λ x o v.
     done (with_cells x o (pairs_without i o.cells) s) Empty)

@@ -46,6 +46,10 @@ values_of entrance value = value ∷ []
 abbrev pub HasIt : ℕ → Held → Type 0
 HasIt s o = (c : Cell) × (value_at s (inner o) ≡ Some c)
 
+-- it has an item of the number i
+abbrev pub HasNumber : Held → ℕ → Type 0
+HasNumber o i = (s : ℕ) × (c : Cell) × (value_at s (inner o) ≡ Some c) × (c.0 ≡ i)
+
 -- the entrance names no item, or one that is there
 abbrev pub IsThere : {X : Type 0} → Entrance → List (ℕ × X) → Type 0
 IsThere Front ps = ⊤

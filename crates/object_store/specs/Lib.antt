@@ -1,10 +1,14 @@
 pub mod Cells
+pub mod Change
 pub mod Commands
 pub mod Entrance
 pub mod Inner
 pub mod Kept
 pub mod Leads
+pub mod Look
 pub mod Met
+pub mod Near
 pub mod Slots
 pub mod State
 pub mod Views
+pub mod Words

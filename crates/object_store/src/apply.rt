@@ -9,8 +9,11 @@ ghost use Rattle.object_store.specs.Commands.{objects_done};
 ghost use Rattle.object_store.specs.Leads.{Leads};
 ghost use Rattle.object_store.specs.Met.{AreMet};
 
+use crate::entrance::End;
 use crate::kind::ObjectKind;
+use crate::near::Neighbour;
 use crate::objects::Objects;
+use crate::part::{Reading, Writing};
 use reply_text::Reply;
 use script_text::{Arg, ObjectWord};
 
@@ -53,6 +56,9 @@ impl Objects {
             ObjectWord::MakeList => self.make(ObjectKind::List, name),
             ObjectWord::MakeDict => self.make(ObjectKind::Dict, name),
             ObjectWord::MakeQueue => self.make(ObjectKind::Queue, name),
+            ObjectWord::DropObject => self.drop_object(name),
+            ObjectWord::Size => self.size(name),
+            ObjectWord::ReverseItems => self.reverse_items(name),
             _ => unreachable!(),
         }
     }
@@ -93,6 +99,14 @@ impl Objects {
             self.old result self.new }
     {
         match word {
+            ObjectWord::Contents => self.read(Reading::Contents, number),
+            ObjectWord::Key => self.read(Reading::Key, number),
+            ObjectWord::Prio => self.read(Reading::Priority, number),
+            ObjectWord::Inf => self.read(Reading::Information, number),
+            ObjectWord::CyclicSucc => self.neighbour(Neighbour::CyclicSucc, number),
+            ObjectWord::CyclicPred => self.neighbour(Neighbour::CyclicPred, number),
+            ObjectWord::MoveToFront => self.move_to(End::Front, number),
+            ObjectWord::MoveToRear => self.move_to(End::Rear, number),
             ObjectWord::DelItem => self.del_item(number),
             _ => unreachable!(),
         }
@@ -116,6 +130,8 @@ impl Objects {
         match word {
             ObjectWord::InsertBefore => self.insert_before(number, value),
             ObjectWord::InsertBehind => self.insert_behind(number, value),
+            ObjectWord::Assign => self.write(Writing::Contents, number, value),
+            ObjectWord::ChangeInf => self.write(Writing::Information, number, value),
             _ => unreachable!(),
         }
     }

@@ -25,14 +25,14 @@ pub(crate) enum Entrance {
 
 /// A side of an item of a list.
 #[derive(Clone, Copy, Debug, PartialEq, Eq)]
-pub(crate) enum Side {
+pub enum Side {
     Before,
     Behind,
 }
 
 /// An end of a list.
 #[derive(Clone, Copy, Debug, PartialEq, Eq)]
-pub(crate) enum End {
+pub enum End {
     Front,
     Rear,
 }

@@ -8,6 +8,9 @@
 //! - `object`: a container whose entries know their numbers; `entrance`: how items come in.
 //! - `slots`: the places of objects, each of which is free or has a named object.
 //! - `parts`: what comes into the places and the pool of items at once, and what goes out of both.
+//! - `part` and `look`: what is read of an item and written to it; `near`: the items at the ends of
+//!   a list, and neighbours.
+//! - `change`: how a container changes that keeps its items; `drop`: how an object goes.
 //! - `edits` and `objects`: the commands, and the session's objects; `apply`: a command by its word.
 //!
 //! An item is found by its number in one look into a pool, which has the place of its object and
@@ -17,14 +20,22 @@
 #![tactic(auto)]
 
 mod apply;
+mod change;
+mod drop;
 mod edits;
 mod entrance;
 mod kind;
+mod look;
+mod near;
 mod object;
 mod objects;
+mod part;
 mod parts;
 mod slots;
 
+pub use entrance::{End, Side};
 pub use kind::ObjectKind;
+pub use near::Neighbour;
 pub use objects::{CELL_LIMIT, OBJECT_LIMIT, Objects};
+pub use part::{Reading, Writing};
 pub use script_text::ObjectWord;

@@ -1,8 +1,9 @@
 //! The objects of a session.
-ghost use Rattle.std.specs.Prelude.{◌≡◌, [], ◌∷◌, true, false, ⊤, OnOk, OnErr, MatchResult};
+ghost use Rattle.std.specs.Prelude.{◌≡◌, [], ◌∷◌, Some, true, false, ⊤, OnOk, OnErr, MatchResult};
 ghost use Rattle.script_text.specs.declared.argument.Arg.TheVariants as args;
 ghost use Rattle.script_text.specs.declared.form.Kinds.TheVariants as kinds;
 ghost use Rattle.item_pool.specs.Contents.{WhyGone};
+ghost use Rattle.reply_text.specs.declared.reply.Reply.TheVariants.{Line};
 ghost use Rattle.reply_text.specs.Outcome.{Gives};
 ghost use Rattle.reply_text.specs.Text.{IsNamed, IsShort};
 ghost use Rattle.object_store.specs.State.{no_objects};
@@ -10,17 +11,23 @@ ghost use Rattle.script_text.specs.declared.word.ObjectWord.TheVariants as words
 ghost use Rattle.object_store.specs.Kept.{HasAt, Puts};
 ghost use Rattle.object_store.specs.Inner.{kind_of};
 ghost use Rattle.object_store.specs.Leads.{Leads};
-ghost use Rattle.object_store.specs.Commands.{objects_done, make as makes};
+ghost use Rattle.object_store.specs.Commands.{number_line, objects_done, make as makes};
 ghost use Rattle.object_store.specs.Views.{has_object as has, holds_cell as holds, is_live};
+ghost use Rattle.object_store.specs.Words.{reading_word, reading_kinds, neighbour_word, writing_word, writing_kinds, moving_word};
 
+use crate::change::Change;
+use crate::drop::drop_object;
 use crate::edits::{delete, put_at_end, put_beside};
 use crate::entrance::{End, Side};
 use crate::kind::ObjectKind;
-use crate::object::Object;
-use crate::parts::place_of;
+use crate::look::{len_at, read_at};
+use crate::near::{Neighbour, number_at_place};
+use crate::object::{Entry, Object};
+use crate::part::{Reading, Writing};
+use crate::parts::{change, place_of};
 use crate::slots::{Named, count, free_slot, slot_of};
 use item_pool::{Gone, Item, Pool};
-use leda_base::{NoMemory, Row};
+use leda_base::{ItemName, NoMemory, Row};
 use reply_text::{Refusal, Reply, ReplyLine};
 use script_text::Kinds;
 use std::alloc::Global;
@@ -191,6 +198,108 @@ impl Objects {
         )
     }
 
+    /// `size X`: how many items a container has.
+    pub fn size(&self, name: &[u8]) -> Reply
+        requires { has self.now kinds.Container name.now ≡ true }
+        ensures leads { objects_done words.Size (args.Name name.now ∷ []) self.now
+            ≡ Some (self.now, result) }
+        ensures named { IsNamed result }
+        ensures short { IsShort result }
+    {
+        let slots = self.slots.as_slice();
+        let Some(slot) = slot_of(slots, name) else {
+            unreachable!()
+        };
+        let len = len_at(slots, slot);
+        Reply::Line(ReplyLine::Num(i64::from(len)))
+    }
+
+    /// `contents i`, `key i`, `prio i` and `inf i`: what an item holds.
+    pub fn read(&self, what: Reading, number: u32) -> Reply
+        requires { holds self.now (reading_kinds what) number ≡ true }
+        ensures leads { objects_done (reading_word what) (args.Cell number ∷ []) self.now
+            ≡ Some (self.now, result) }
+        ensures named { IsNamed result }
+        ensures short { IsShort result }
+    {
+        let Some(place) = place_of(&self.cells, number) else {
+            unreachable!()
+        };
+        let value = read_at(self.slots.as_slice(), place, what);
+        Reply::Line(ReplyLine::Num(value))
+    }
+
+    /// `cyclic_succ i` and `cyclic_pred i`: a neighbour of an item of a list.
+    pub fn neighbour(&self, what: Neighbour, number: u32) -> Reply
+        requires { holds self.now kinds.List number ≡ true }
+        ensures leads { objects_done (neighbour_word what) (args.Cell number ∷ []) self.now
+            ≡ Some (self.now, result) }
+        ensures named { IsNamed result }
+        ensures short { IsShort result }
+    {
+        let Some(place) = place_of(&self.cells, number) else {
+            unreachable!()
+        };
+        let near = what.of(place.item);
+        number_reply(number_at_place(self.slots.as_slice(), place.slot, near))
+    }
+
+    /// `assign i x` and `change_inf i x`: gives an item another value, or another information. It
+    /// takes no memory.
+    pub fn write(&mut self, what: Writing, number: u32, value: i64) -> Reply
+        requires { holds self.old (writing_kinds what) number ≡ true }
+        ensures leads { Leads false
+            (objects_done (writing_word what) (args.Cell number ∷ args.Num value ∷ []) self.old)
+            self.old result self.new }
+        ensures named { IsNamed result }
+        ensures short { IsShort result }
+    {
+        let Some(place) = place_of(&self.cells, number) else {
+            unreachable!()
+        };
+        change(
+            self.slots.as_mut_slice(),
+            place.slot,
+            Change::Write(place.item, Entry { number, value }),
+        );
+        Reply::Line(ReplyLine::Empty)
+    }
+
+    /// `move_to_front i` and `move_to_rear i`: moves an item of a list before all others, or behind
+    /// them. It takes no memory.
+    pub fn move_to(&mut self, end: End, number: u32) -> Reply
+        requires { holds self.old kinds.List number ≡ true }
+        ensures leads { Leads false (objects_done (moving_word end) (args.Cell number ∷ []) self.old)
+            self.old result self.new }
+        ensures named { IsNamed result }
+        ensures short { IsShort result }
+    {
+        let Some(place) = place_of(&self.cells, number) else {
+            unreachable!()
+        };
+        change(
+            self.slots.as_mut_slice(),
+            place.slot,
+            Change::Move(place.item, end),
+        );
+        Reply::Line(ReplyLine::Empty)
+    }
+
+    /// `reverse_items X`: turns a list round, in constant time and without memory.
+    pub fn reverse_items(&mut self, name: &[u8]) -> Reply
+        requires { has self.old kinds.List name.now ≡ true }
+        ensures leads { Leads false (objects_done words.ReverseItems (args.Name name.now ∷ []) self.old)
+            self.old result self.new }
+        ensures named { IsNamed result }
+        ensures short { IsShort result }
+    {
+        let Some(slot) = slot_of(self.slots.as_slice(), name) else {
+            unreachable!()
+        };
+        change(self.slots.as_mut_slice(), slot, Change::Turn);
+        Reply::Line(ReplyLine::Empty)
+    }
+
     /// `del_item i`: takes an item out of its container. It takes no memory.
     pub fn del_item(&mut self, number: u32) -> Reply
         requires { holds self.old kinds.Container number ≡ true }
@@ -200,6 +309,18 @@ impl Objects {
         ensures short { IsShort result }
     {
         delete(self.slots.as_mut_slice(), &mut self.cells, number)
+    }
+
+    /// `drop X`: takes an object out with its items, whose numbers aren't given again. It takes no
+    /// memory.
+    pub fn drop_object(&mut self, name: &[u8]) -> Reply
+        requires { has self.old kinds.Any name.now ≡ true }
+        ensures leads { Leads false (objects_done words.DropObject (args.Name name.now ∷ []) self.old)
+            self.old result self.new }
+        ensures named { IsNamed result }
+        ensures short { IsShort result }
+    {
+        drop_object(self.slots.as_mut_slice(), &mut self.cells, name)
     }
 
     /// `list X`, `dict X` and `queue X`: makes an empty container, under a name that no object has.
@@ -223,6 +344,18 @@ impl Objects {
             Ok(()) => Reply::Line(ReplyLine::Empty),
             Err(NoMemory) => Reply::Refused(Refusal::Memory),
         }
+    }
+}
+
+/// An item by its number, if there is one.
+fn number_reply(number: Option<u32>) -> Reply
+    ensures value { result ≡ Line (number_line number) }
+    ensures named { IsNamed result }
+    ensures short { IsShort result }
+{
+    match number {
+        Some(number) => Reply::Line(ReplyLine::Name(ItemName::Cell(number))),
+        None => Reply::Line(ReplyLine::Nil),
     }
 }
 

@@ -10,8 +10,10 @@ ghost use Rattle.object_store.specs.declared.slots.Named.{Named};
 ghost use Rattle.object_store.specs.Commands.{full_cell, enters, with_cells};
 ghost use Rattle.object_store.specs.Inner.{cell_in, cells_in, inner, made_in, seen};
 ghost use Rattle.object_store.specs.Entrance.{entered, values_of, Fits, Enters, IsLike, HasIt, Leaves};
+ghost use Rattle.object_store.specs.Change.{Allows, IsChanged};
 ghost use Rattle.object_store.specs.Kept.{state_of, IsKept, HasAt, Replaces};
 
+use crate::change::Change;
 use crate::entrance::Entrance;
 use crate::object::Entry;
 use crate::objects::{CELL_LIMIT, Place};
@@ -132,5 +134,16 @@ pub(crate) fn leave(slots: &mut [Option<Named>], cells: &mut Pool<Place>, number
     }) {
         Ok(_) => {}
         Err(_) => unreachable!(),
+    }
+}
+
+/// Changes the object at a place, which keeps its items.
+pub(crate) fn change(slots: &mut [Option<Named>], slot: usize, change: Change)
+    requires { HasAt slots.old slot (Allows change) }
+    ensures { Replaces slots.old slots.new slot (IsChanged change) }
+{
+    match &mut slots[slot] {
+        Some(named) => named.object.change(change),
+        None => unreachable!(),
     }
 }

@@ -44,11 +44,21 @@ const FILE: Form = Form::File;
 
 const NEW_NAME: Form = Form::NewName;
 
+const OBJECT: Form = Form::Object(Kinds::Any);
+
+const CONTAINER: Form = Form::Object(Kinds::Container);
+
 const LIST: Form = Form::Object(Kinds::List);
+
+const CELL: Form = Form::Cell(Kinds::Container);
 
 const LIST_CELL: Form = Form::Cell(Kinds::List);
 
-const CELL: Form = Form::Cell(Kinds::Container);
+const DICT_CELL: Form = Form::Cell(Kinds::Dict);
+
+const QUEUE_CELL: Form = Form::Cell(Kinds::Queue);
+
+const INFORMED_CELL: Form = Form::Cell(Kinds::DictOrQueue);
 
 const NUM: Form = Form::Num;
 
@@ -64,54 +74,67 @@ macro_rules! rows {
 pub(crate) use rows;
 
 /// The table. All that is said of a command before it runs is said here.
-pub(crate) const TABLE: [Entry; 47] = rows! {
-    "node"             Edit(EditWord::Node)           [LABEL]              Taken;
-    "edge"             Edit(EditWord::Edge)           [NODE, NODE, LABEL]  Taken;
-    "edge_before"      Edit(EditWord::EdgeBefore)     [EDGE, NODE, LABEL]  Taken;
-    "edge_behind"      Edit(EditWord::EdgeBehind)     [EDGE, NODE, LABEL]  Taken;
-    "del_edge"         Edit(EditWord::DelEdge)        [EDGE]               NotTaken;
-    "del_node"         Edit(EditWord::DelNode)        [NODE]               NotTaken;
-    "rev_edge"         Edit(EditWord::RevEdge)        [EDGE]               NotTaken;
-    "move_edge"        Edit(EditWord::MoveEdge)       [EDGE, NODE, NODE]   NotTaken;
-    "clear"            Edit(EditWord::Clear)          []                   NotTaken;
-    "rev_all"          Edit(EditWord::RevAll)         []                   NotTaken;
-    "make_undirected"  Edit(EditWord::MakeUndirected) []                   NotTaken;
-    "make_directed"    Edit(EditWord::MakeDirected)   []                   NotTaken;
-    "label"            Edit(EditWord::SetLabel)       [ELEMENT, NEW_LABEL] Taken;
-    "set_reversal"     Edit(EditWord::SetReversal)    [EDGE, EDGE]         NotTaken;
-    "make_map"         Edit(EditWord::MakeMap)        []                   NotTaken;
-    "hide_edge"        Edit(EditWord::HideEdge)       [LIVE_EDGE]          NotTaken;
-    "hide_node"        Edit(EditWord::HideNode)       [LIVE_NODE]          NotTaken;
-    "restore_node"     Edit(EditWord::RestoreNode)    [LIVE_NODE]          NotTaken;
-    "restore_all"      Edit(EditWord::RestoreAll)     []                   NotTaken;
-    "restore_edge"     Edit(EditWord::RestoreEdge)    [LIVE_EDGE]          NotTaken;
-    "load"             File(FileWord::Load)           [FILE]               Taken;
-    "save"             File(FileWord::Save)           [FILE]               Taken;
-    "count"            Look(LookWord::Count)          []                   NotTaken;
-    "nodes"            Look(LookWord::Nodes)          []                   TakenByReply;
-    "edges"            Look(LookWord::Edges)          []                   TakenByReply;
-    "out"              Look(LookWord::OutEdges)       [NODE]               TakenByReply;
-    "in"               Look(LookWord::InEdges)        [NODE]               TakenByReply;
-    "first_adj"        Look(LookWord::FirstAdj)       [NODE]               NotTaken;
-    "last_adj"         Look(LookWord::LastAdj)        [NODE]               NotTaken;
-    "adj_succ"         Look(LookWord::AdjSucc)        [EDGE]               NotTaken;
-    "adj_pred"         Look(LookWord::AdjPred)        [EDGE]               NotTaken;
-    "cyclic_adj_succ"  Look(LookWord::CyclicAdjSucc)  [EDGE]               NotTaken;
-    "cyclic_adj_pred"  Look(LookWord::CyclicAdjPred)  [EDGE]               NotTaken;
-    "source"           Look(LookWord::Source)         [EDGE]               NotTaken;
-    "target"           Look(LookWord::Target)         [EDGE]               NotTaken;
-    "reversal"         Look(LookWord::Reversal)       [EDGE]               NotTaken;
-    "face_succ"        Look(LookWord::FaceSucc)       [EDGE]               NotTaken;
-    "get_label"        Look(LookWord::GetLabel)       [ELEMENT]            TakenByReply;
-    "list"             Object(ObjectWord::MakeList)     [NEW_NAME]       Taken;
-    "dict"             Object(ObjectWord::MakeDict)     [NEW_NAME]       Taken;
-    "queue"            Object(ObjectWord::MakeQueue)    [NEW_NAME]       Taken;
-    "push"             Object(ObjectWord::Push)         [LIST, NUM]      Taken;
-    "append"           Object(ObjectWord::Append)       [LIST, NUM]      Taken;
-    "insert_before"    Object(ObjectWord::InsertBefore) [LIST_CELL, NUM] Taken;
-    "insert_behind"    Object(ObjectWord::InsertBehind) [LIST_CELL, NUM] Taken;
-    "del_item"         Object(ObjectWord::DelItem)      [CELL]           NotTaken;
-    "reach"            Query(QueryWord::Reach)        [NODE, NODE]         TakenByReply;
+pub(crate) const TABLE: [Entry; 60] = rows! {
+    "node"            Edit(EditWord::Node)             [LABEL]              Taken;
+    "edge"            Edit(EditWord::Edge)             [NODE, NODE, LABEL]  Taken;
+    "edge_before"     Edit(EditWord::EdgeBefore)       [EDGE, NODE, LABEL]  Taken;
+    "edge_behind"     Edit(EditWord::EdgeBehind)       [EDGE, NODE, LABEL]  Taken;
+    "del_edge"        Edit(EditWord::DelEdge)          [EDGE]               NotTaken;
+    "del_node"        Edit(EditWord::DelNode)          [NODE]               NotTaken;
+    "rev_edge"        Edit(EditWord::RevEdge)          [EDGE]               NotTaken;
+    "move_edge"       Edit(EditWord::MoveEdge)         [EDGE, NODE, NODE]   NotTaken;
+    "clear"           Edit(EditWord::Clear)            []                   NotTaken;
+    "rev_all"         Edit(EditWord::RevAll)           []                   NotTaken;
+    "make_undirected" Edit(EditWord::MakeUndirected)   []                   NotTaken;
+    "make_directed"   Edit(EditWord::MakeDirected)     []                   NotTaken;
+    "label"           Edit(EditWord::SetLabel)         [ELEMENT, NEW_LABEL] Taken;
+    "set_reversal"    Edit(EditWord::SetReversal)      [EDGE, EDGE]         NotTaken;
+    "make_map"        Edit(EditWord::MakeMap)          []                   NotTaken;
+    "hide_edge"       Edit(EditWord::HideEdge)         [LIVE_EDGE]          NotTaken;
+    "hide_node"       Edit(EditWord::HideNode)         [LIVE_NODE]          NotTaken;
+    "restore_node"    Edit(EditWord::RestoreNode)      [LIVE_NODE]          NotTaken;
+    "restore_all"     Edit(EditWord::RestoreAll)       []                   NotTaken;
+    "restore_edge"    Edit(EditWord::RestoreEdge)      [LIVE_EDGE]          NotTaken;
+    "load"            File(FileWord::Load)             [FILE]               Taken;
+    "save"            File(FileWord::Save)             [FILE]               Taken;
+    "count"           Look(LookWord::Count)            []                   NotTaken;
+    "nodes"           Look(LookWord::Nodes)            []                   TakenByReply;
+    "edges"           Look(LookWord::Edges)            []                   TakenByReply;
+    "out"             Look(LookWord::OutEdges)         [NODE]               TakenByReply;
+    "in"              Look(LookWord::InEdges)          [NODE]               TakenByReply;
+    "first_adj"       Look(LookWord::FirstAdj)         [NODE]               NotTaken;
+    "last_adj"        Look(LookWord::LastAdj)          [NODE]               NotTaken;
+    "adj_succ"        Look(LookWord::AdjSucc)          [EDGE]               NotTaken;
+    "adj_pred"        Look(LookWord::AdjPred)          [EDGE]               NotTaken;
+    "cyclic_adj_succ" Look(LookWord::CyclicAdjSucc)    [EDGE]               NotTaken;
+    "cyclic_adj_pred" Look(LookWord::CyclicAdjPred)    [EDGE]               NotTaken;
+    "source"          Look(LookWord::Source)           [EDGE]               NotTaken;
+    "target"          Look(LookWord::Target)           [EDGE]               NotTaken;
+    "reversal"        Look(LookWord::Reversal)         [EDGE]               NotTaken;
+    "face_succ"       Look(LookWord::FaceSucc)         [EDGE]               NotTaken;
+    "get_label"       Look(LookWord::GetLabel)         [ELEMENT]            TakenByReply;
+    "list"            Object(ObjectWord::MakeList)     [NEW_NAME]           Taken;
+    "dict"            Object(ObjectWord::MakeDict)     [NEW_NAME]           Taken;
+    "queue"           Object(ObjectWord::MakeQueue)    [NEW_NAME]           Taken;
+    "drop"            Object(ObjectWord::DropObject)   [OBJECT]             NotTaken;
+    "size"            Object(ObjectWord::Size)         [CONTAINER]          NotTaken;
+    "push"            Object(ObjectWord::Push)         [LIST, NUM]          Taken;
+    "append"          Object(ObjectWord::Append)       [LIST, NUM]          Taken;
+    "insert_before"   Object(ObjectWord::InsertBefore) [LIST_CELL, NUM]     Taken;
+    "insert_behind"   Object(ObjectWord::InsertBehind) [LIST_CELL, NUM]     Taken;
+    "contents"        Object(ObjectWord::Contents)     [LIST_CELL]          NotTaken;
+    "assign"          Object(ObjectWord::Assign)       [LIST_CELL, NUM]     NotTaken;
+    "cyclic_succ"     Object(ObjectWord::CyclicSucc)   [LIST_CELL]          NotTaken;
+    "cyclic_pred"     Object(ObjectWord::CyclicPred)   [LIST_CELL]          NotTaken;
+    "move_to_front"   Object(ObjectWord::MoveToFront)  [LIST_CELL]          NotTaken;
+    "move_to_rear"    Object(ObjectWord::MoveToRear)   [LIST_CELL]          NotTaken;
+    "reverse_items"   Object(ObjectWord::ReverseItems) [LIST]               NotTaken;
+    "key"             Object(ObjectWord::Key)          [DICT_CELL]          NotTaken;
+    "prio"            Object(ObjectWord::Prio)         [QUEUE_CELL]         NotTaken;
+    "inf"             Object(ObjectWord::Inf)          [INFORMED_CELL]      NotTaken;
+    "change_inf"      Object(ObjectWord::ChangeInf)    [INFORMED_CELL, NUM] NotTaken;
+    "del_item"        Object(ObjectWord::DelItem)      [CELL]               NotTaken;
+    "reach"           Query(QueryWord::Reach)          [NODE, NODE]         TakenByReply;
 };
 
 /// The rows of the table.

@@ -1,0 +1,50 @@
+-- The words of commands that are one call with a parameter, and the kinds of objects that they take.
+use Rattle.std.specs.Prelude.{ℕ, ℤ, List}
+use Rattle.script_text.specs.declared.form.Kinds.{Kinds}
+use Rattle.script_text.specs.declared.form.Kinds.TheVariants as kinds
+use Rattle.object_store.specs.declared.entrance.End.{End}
+use Rattle.object_store.specs.declared.entrance.End.TheVariants as ends
+use Rattle.object_store.specs.declared.near.Neighbour.{Neighbour}
+use Rattle.object_store.specs.declared.near.Neighbour.TheVariants.{CyclicSucc, CyclicPred}
+use Rattle.object_store.specs.declared.part.Reading.{Reading}
+use Rattle.object_store.specs.declared.part.Reading.TheVariants as readings
+use Rattle.object_store.specs.declared.part.Writing.{Writing}
+use Rattle.object_store.specs.declared.part.Writing.TheVariants as writings
+use Rattle.script_text.specs.declared.word.ObjectWord.{ObjectWord}
+use Rattle.script_text.specs.declared.word.ObjectWord.TheVariants as words
+use Rattle.object_store.specs.Cells.{head_of, inf_of}
+
+abbrev pub reading_word : Reading → ObjectWord
+reading_word readings.Contents = words.Contents
+reading_word readings.Key = words.Key
+reading_word readings.Priority = words.Prio
+reading_word readings.Information = words.Inf
+
+abbrev pub reading_kinds : Reading → Kinds
+reading_kinds readings.Contents = kinds.List
+reading_kinds readings.Key = kinds.Dict
+reading_kinds readings.Priority = kinds.Queue
+reading_kinds readings.Information = kinds.DictOrQueue
+
+-- what is read of an item that holds these values
+abbrev pub read : Reading → List ℤ → ℤ
+read readings.Contents values = head_of values
+read readings.Key values = head_of values
+read readings.Priority values = head_of values
+read readings.Information values = inf_of values
+
+abbrev pub writing_word : Writing → ObjectWord
+writing_word writings.Contents = words.Assign
+writing_word writings.Information = words.ChangeInf
+
+abbrev pub writing_kinds : Writing → Kinds
+writing_kinds writings.Contents = kinds.List
+writing_kinds writings.Information = kinds.DictOrQueue
+
+abbrev pub moving_word : End → ObjectWord
+moving_word ends.Front = words.MoveToFront
+moving_word ends.Rear = words.MoveToRear
+
+abbrev pub neighbour_word : Neighbour → ObjectWord
+neighbour_word CyclicSucc = words.CyclicSucc
+neighbour_word CyclicPred = words.CyclicPred
