@@ -116,3 +116,28 @@ fn files_are_saved_and_loaded(rt: HostRuntime) -> Result<(), Fail> {
     assert_eq!(rt; store.save(alloc, "gone/a", b"abc"), Err(SaveFault::Failed));
     Ok(())
 }
+
+#[test]
+fn a_store_in_memory_has_the_first_file_of_a_name_and_fails_by_its_list(
+    rt: HostRuntime,
+) -> Result<(), Fail> {
+    let alloc = rt.alloc();
+    let mut files = Vec::new(alloc);
+    for (name, text) in [("a", "one"), ("b", "two"), ("a", "other")] {
+        files.push((String::from_str(alloc, name)?, bytes_of(alloc, text)?))?;
+    }
+    let mut store = MemStore::new(files, [3, 6].to_vec(alloc)?);
+    let loaded = store.load(alloc, "a", 3).ok();
+    assert_eq!(rt; loaded.ok_or("loaded")?.as_slice(), b"one".as_slice());
+    assert_eq!(rt; store.load(alloc, "c", 9).err(), Some(LoadFault::Absent));
+    assert_eq!(rt; store.load(alloc, "a", 3).err(), Some(LoadFault::Failed));
+    assert_eq!(rt; store.load(alloc, "b", 2).err(), Some(LoadFault::TooBig));
+    assert_eq!(rt; store.save(alloc, "a", b"four"), Ok(()));
+    assert_eq!(rt; store.save(alloc, "c", b"x"), Err(SaveFault::Failed));
+    assert_eq!(rt; store.file("c"), None);
+    assert_eq!(rt; store.save(alloc, "c", b"x"), Ok(()));
+    for (name, text) in [("a", "four"), ("b", "two"), ("c", "x")] {
+        assert_eq!(rt; store.file(name), Some(text.as_bytes()));
+    }
+    Ok(())
+}
