@@ -176,9 +176,9 @@ runs_more sorted k size last r odd was up h l ew er =
     let top = at_most sorted k l in
     let le = h.rest k (omega arith) l in
     let parity : cond {A = ℕ} was 1 0 ≡ times x xs % 2 =
-        ap (λ (b : Bool). cond {A = ℕ} b 1 0) ew
-        ∙ run_parity odd (eqb x last) x last (times x xs) refl le (h.later x)
-          (λ e. h.parity ∙ ap (λ (i : ℕ). times i xs % 2) (sym e)) in
+    ap (λ (b : Bool). cond {A = ℕ} b 1 0) ew
+    ∙ run_parity odd (eqb x last) x last (times x xs) refl le (h.later x)
+    (λ e. h.parity ∙ ap (λ (i : ℕ). times i xs % 2) (sym e)) in
     let t = total_more (greatest sorted) x size xs ys was more (omega arith) h.total parity in
     let same = t.0 in
     let small = t.1 in
