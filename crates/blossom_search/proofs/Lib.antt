@@ -1,0 +1,5 @@
+pub mod Swaps
+pub mod Centrals
+pub mod Closings
+pub mod Augments
+pub mod Growths
