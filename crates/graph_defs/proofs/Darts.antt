@@ -2,7 +2,7 @@
 use Rattle.std.proofs.Common.{◌≡◌, ℕ, zero, suc, ◌*◌, List, [], ◌∷◌, get_or, refl, sym, ◌∙◌, ap, arith}
 use Rattle.graph_defs.specs.declared.net.Net.{Net}
 use Rattle.graph_defs.specs.Net.{Ends, source, target}
-use Rattle.graph_defs.specs.Dart.{opposite, edge_of, place_in, place}
+use Rattle.graph_defs.specs.Dart.{opposite, edge_of, origin_in, origin}
 
 pub opposite_twice : (x : ℕ) → opposite (opposite x) ≡ x
 opposite_twice zero = refl
@@ -39,18 +39,18 @@ pub opposite_back : (e : ℕ) → opposite (suc (2 * e)) ≡ 2 * e
 opposite_back e = ap opposite (sym (opposite_front e)) ∙ opposite_twice (2 * e)
 
 -- where the darts of an arc stand
-place_in_front : (arcs : List Ends) (e : ℕ) → place_in arcs (2 * e) ≡ (get_or arcs e (0, 0)).0
-place_in_front [] e = refl
-place_in_front (arc ∷ arcs) zero = refl
-place_in_front (arc ∷ arcs) (suc e) = ap (place_in (arc ∷ arcs)) (double_suc e) ∙ place_in_front arcs e
+origin_in_front : (arcs : List Ends) (e : ℕ) → origin_in arcs (2 * e) ≡ (get_or arcs e (0, 0)).0
+origin_in_front [] e = refl
+origin_in_front (arc ∷ arcs) zero = refl
+origin_in_front (arc ∷ arcs) (suc e) = ap (origin_in (arc ∷ arcs)) (double_suc e) ∙ origin_in_front arcs e
 
-place_in_back : (arcs : List Ends) (e : ℕ) → place_in arcs (suc (2 * e)) ≡ (get_or arcs e (0, 0)).1
-place_in_back [] e = refl
-place_in_back (arc ∷ arcs) zero = refl
-place_in_back (arc ∷ arcs) (suc e) = ap (λ (x : ℕ). place_in (arc ∷ arcs) (suc x)) (double_suc e) ∙ place_in_back arcs e
+origin_in_back : (arcs : List Ends) (e : ℕ) → origin_in arcs (suc (2 * e)) ≡ (get_or arcs e (0, 0)).1
+origin_in_back [] e = refl
+origin_in_back (arc ∷ arcs) zero = refl
+origin_in_back (arc ∷ arcs) (suc e) = ap (λ (x : ℕ). origin_in (arc ∷ arcs) (suc x)) (double_suc e) ∙ origin_in_back arcs e
 
-pub place_front : (net : Net) (arc : ℕ) → place net (2 * arc) ≡ source net arc
-place_front net arc = place_in_front net.arcs arc
+pub origin_front : (net : Net) (arc : ℕ) → origin net (2 * arc) ≡ source net arc
+origin_front net arc = origin_in_front net.arcs arc
 
-pub place_back : (net : Net) (arc : ℕ) → place net (suc (2 * arc)) ≡ target net arc
-place_back net arc = place_in_back net.arcs arc
+pub origin_back : (net : Net) (arc : ℕ) → origin net (suc (2 * arc)) ≡ target net arc
+origin_back net arc = origin_in_back net.arcs arc

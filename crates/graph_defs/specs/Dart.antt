@@ -22,15 +22,15 @@ edge_of zero = 0
 edge_of (suc zero) = 0
 edge_of (suc (suc dart)) = suc (edge_of dart)
 
--- the node at which a dart stands: the front dart at the arc's source, the back dart at its target
-abbrev pub place_in : List Ends → ℕ → ℕ
-place_in [] dart = 0
-place_in (arc ∷ arcs) zero = arc.0
-place_in (arc ∷ arcs) (suc zero) = arc.1
-place_in (arc ∷ arcs) (suc (suc dart)) = place_in arcs dart
+-- the node that a dart begins at: the source of the arc for the front dart, its target for the back
+abbrev pub origin_in : List Ends → ℕ → ℕ
+origin_in [] dart = 0
+origin_in (arc ∷ arcs) zero = arc.0
+origin_in (arc ∷ arcs) (suc zero) = arc.1
+origin_in (arc ∷ arcs) (suc (suc dart)) = origin_in arcs dart
 
-abbrev pub place : Net → ℕ → ℕ
-place net = place_in net.arcs
+abbrev pub origin : Net → ℕ → ℕ
+origin net = origin_in net.arcs
 
 -- one dart more: `among` is 1 on the darts that are there and else 0
 abbrev pub with_dart : (ℕ → ℕ) → ℕ → ℕ → ℕ
@@ -41,10 +41,10 @@ abbrev pub darts_of : List ℕ → ℕ → ℕ
 darts_of [] x = 0
 darts_of (edge ∷ edges) x = with_dart (with_dart (darts_of edges) (2 * edge)) (2 * edge + 1) x
 
--- a walk along darts that are there: each leads from where it stands to where its opposite stands
+-- a walk along darts that are there: each leads from its origin to that of its opposite
 abbrev pub IsTrail : (ℕ → ℕ) → (ℕ → ℕ) → ℕ → ℕ → List ℕ → Type 0
-IsTrail among place v w darts =
-    IsWalkBy (λ dart. 1 ≤ among dart) place (λ dart. place (opposite dart)) v w darts
+IsTrail among origin v w darts =
+    IsWalkBy (λ dart. 1 ≤ among dart) origin (λ dart. origin (opposite dart)) v w darts
 
 -- the numbers below m, the greatest first
 abbrev pub numbers_below : ℕ → List ℕ

@@ -7,6 +7,7 @@ pub mod Layout
 pub mod Matching
 pub mod Net
 pub mod Plain
+pub mod Query
 pub mod Set
 pub mod Shortest
 pub mod Sum

@@ -1,5 +1,6 @@
 -- Valid nets, and the ends of their arcs.
 use Rattle.std.specs.Prelude.{ℕ, ◌<◌, ◌≤◌, List, length, All, slice_index_or}
+use Rattle.graph_defs.specs.declared.net.TheConstants.{NODE_LIMIT, ARC_LIMIT}
 use Rattle.graph_defs.specs.declared.net.Net.{Net}
 
 -- the two ends of an arc, by numbers of nodes
@@ -12,8 +13,8 @@ EndsBelow n arcs = All (λ (arc : Ends). (arc.0 < n) × (arc.1 < n)) arcs
 
 -- there are few enough nodes, and few enough arcs
 pub record IsWithinLimits (net : Net) : Type 0 where
-  pub nodes : net.n ≤ 100000
-  pub arcs : length net.arcs ≤ 400000
+  pub nodes : net.n ≤ NODE_LIMIT
+  pub arcs : length net.arcs ≤ ARC_LIMIT
 
 -- every end is a node, and there are few enough of both
 pub record IsValid (net : Net) : Type 0 where

@@ -1,25 +1,21 @@
 -- Graphs as files have them: nodes and edges by their places. The valid ones are those that a file
 -- can hold.
-use Rattle.std.specs.Prelude.{◌≡◌, ◌≤◌, ◌<◌, ℕ, ◌+◌, ◌-◌, Bool, true, false, ◌&&◌, ◌||◌, ◌==◌, not, List, [], ◌∷◌, length, slice_index, slice_get, codes, bytes_eq, Option, Some, None, IfSome}
+use Rattle.std.specs.Prelude.{◌≡◌, ◌≤◌, ◌<◌, ℕ, ◌+◌, ◌-◌, Bool, true, false, ◌&&◌, ◌==◌, not, List, [], ◌∷◌, length, slice_index, slice_get, codes, bytes_eq, Option, Some, None, IfSome}
 use Rattle.std.specs.Bool.{OnTrue}
-use Rattle.std.specs.List.{list_all, AllByRecursion}
+use Rattle.std.specs.List.{AllByRecursion}
 use Rattle.std.specs.Option.{option_map_or}
+use Rattle.leda_base.specs.Bytes.{is_blank, is_one_line}
+use Rattle.leda_base.specs.declared.name.TheConstants.{LABEL_LIMIT}
+use Rattle.graph_defs.specs.declared.net.TheConstants.{NODE_LIMIT, ARC_LIMIT}
+use Rattle.graph_defs.specs.declared.plain.TheConstants.{TYPE_LIMIT}
 use Rattle.graph_defs.specs.declared.plain.PlainEdge.{PlainEdge}
 use Rattle.graph_defs.specs.declared.plain.PlainGraph.{PlainGraph}
-
--- a blank is a space, a tab or a CR
-abbrev pub is_blank : ℕ → Bool
-is_blank b = b == 32 || (b == 9 || b == 13)
-
--- bytes none of which ends a line
-abbrev pub is_one_line : List ℕ → Bool
-is_one_line bytes = list_all (λ b. not (b == 10)) bytes
 
 -- The name of a type of labels: 1 to 255 bytes of one line, which neither begins nor ends with a
 -- blank, and doesn't begin with the mark of a comment, `#`.
 pub record IsTypeName (name : List ℕ) : Type 0 where
   pub some : 1 ≤ length name
-  pub short : length name ≤ 255
+  pub short : length name ≤ TYPE_LIMIT
   pub one_line : is_one_line name ≡ true
   pub first : is_blank (slice_index name 0) ≡ false
   pub last : is_blank (slice_index name (length name - 1)) ≡ false
@@ -31,7 +27,7 @@ is_void name = bytes_eq name (codes "void")
 
 -- a label where elements have labels or, if void, have none: at most 60,000 bytes of one line
 pub record IsLabelOf (void : Bool) (label : List ℕ) : Type 0 where
-  pub short : length label ≤ 60000
+  pub short : length label ≤ LABEL_LIMIT
   pub one_line : is_one_line label ≡ true
   pub empty : OnTrue void (length label ≡ 0)
 
@@ -71,8 +67,8 @@ pub record IsPlainEdge (nodes edges : ℕ) (void : Bool) (edge : PlainEdge) : Ty
 pub record IsPlainGraph (g : PlainGraph) : Type 0 where
   pub node_type : IsTypeName g.node_type
   pub edge_type : IsTypeName g.edge_type
-  pub few_nodes : length g.nodes ≤ 100000
-  pub few_edges : length g.edges ≤ 400000
+  pub few_nodes : length g.nodes ≤ NODE_LIMIT
+  pub few_edges : length g.edges ≤ ARC_LIMIT
   pub nodes : AllByRecursion (IsLabelOf (is_void g.node_type)) g.nodes
   pub edges : AllByRecursion
       (IsPlainEdge (length g.nodes) (length g.edges) (is_void g.edge_type)) g.edges

@@ -11,6 +11,7 @@
 //! - `Dart.antt`: the two halves of an edge by their numbers, and walks along darts;
 //! - `Grouped.antt`: pairs of numbers in rows by their keys, which searches go over;
 //! - `Plain.antt`: graphs as files have them, and which of them are valid;
+//! - `Query.antt`: the words of the sorts of kept answers;
 //! - `Verdict.antt`: what the verdict of a checker says, whatever its conditions are.
 //!
 //! A new kind of answer gets a type in `answer`, a file of `specs/` that says when it is right of a
@@ -41,7 +42,7 @@ pub use laws::{
 };
 pub use matching::MatchAnswer;
 pub use net::{ARC_LIMIT, NODE_LIMIT, Net};
-pub use plain::{PlainEdge, PlainGraph, TextKind};
+pub use plain::{PlainEdge, PlainGraph, TYPE_LIMIT, TextKind};
 pub use query::{Kept, Mode};
 pub use shortest::{Finite, Low, Seed, SpAnswer, Why};
 pub use verdict::{Cond, Verdict};

@@ -2,6 +2,9 @@
 
 use leda_base::Row;
 
+/// How many bytes the name of a type of labels may have.
+pub const TYPE_LIMIT: usize = 255;
+
 /// What is wrong with a line of a graph file.
 #[derive(Clone, Copy, Debug, PartialEq, Eq)]
 pub enum TextKind {

@@ -11,7 +11,8 @@ use Rattle.std.proofs.lemmas.List.Sums.{AllPass-from_list_all}
 use Rattle.leda_base.specs.Decimal.{is_digits}
 use Rattle.graph_defs.specs.declared.plain.PlainEdge.{PlainEdge}
 use Rattle.graph_defs.specs.declared.plain.PlainGraph.{PlainGraph}
-use Rattle.graph_defs.specs.Plain.{is_blank, is_one_line, IsTypeName, IsLabelOf, IsPlainEdge, IsPlainGraph}
+use Rattle.leda_base.specs.Bytes.{is_blank, is_one_line}
+use Rattle.graph_defs.specs.Plain.{IsTypeName, IsLabelOf, IsPlainEdge, IsPlainGraph}
 use Rattle.graph_text.specs.Lines.{lines_of}
 use Rattle.graph_text.specs.Text.{kept, AreShort, AreBlanks, IsEdgeLine, GraphText}
 use Rattle.graph_text.specs.Written.{direction_text, label_text, reversal_number, edge_text, written, ended_lines, text_of}

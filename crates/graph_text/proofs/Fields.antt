@@ -1,7 +1,7 @@
 -- Fields, and the blanks behind them.
 use Rattle.std.proofs.Common.{◌≡◌, ℕ, zero, suc, ◌<◌, ◌≤◌, Bool, true, false, not, List, [], ◌∷◌, ◌++◌, length, get_or, take, drop, refl, ap, ◌∙◌, cond, arith}
 use Rattle.std.specs.List.{list_all}
-use Rattle.graph_defs.specs.Plain.{is_blank}
+use Rattle.leda_base.specs.Bytes.{is_blank}
 use Rattle.graph_text.specs.Lines.{unindented}
 use Rattle.graph_text.specs.Parts.{field, rest, behind}
 use Rattle.graph_text.proofs.Passes.{first_true, second_true, not_true}

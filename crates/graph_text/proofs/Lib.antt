@@ -1,6 +1,5 @@
 pub mod Passes
 pub mod Lines
-pub mod Trims
 pub mod Loops
 pub mod Pairs
 pub mod Fields

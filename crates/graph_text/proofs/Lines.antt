@@ -6,7 +6,7 @@ use Rattle.std.proofs.lemmas.Bool.{eqb-true, false_from_ne_true}
 use Rattle.std.proofs.lemmas.List.{length-take, take-append-drop, get_or-take, get_or_default, take_rest}
 use Rattle.std.proofs.lemmas.List.Sums.{list_all-from_AllPass}
 use Rattle.memchr.specs.Find.{NoneBefore, Nowhere, Passes, is_byte}
-use Rattle.graph_defs.specs.Plain.{is_one_line}
+use Rattle.leda_base.specs.Bytes.{is_one_line}
 use Rattle.graph_text.specs.Lines.{lines_of}
 use Rattle.graph_text.proofs.Passes.{first_true, second_true, not_true}
 

@@ -8,7 +8,7 @@ use Rattle.std.proofs.lemmas.Fmt.{decimal_nonempty, digits_decimal, digits_value
 use Rattle.std.proofs.lemmas.Option.{cond_some}
 use Rattle.std.proofs.lemmas.Str.Parse.{IsNumeralModel, numerals_by_fold}
 use Rattle.leda_base.specs.Decimal.{is_digits, with_digit, natural_of}
-use Rattle.graph_defs.specs.Plain.{is_blank, is_one_line}
+use Rattle.leda_base.specs.Bytes.{is_blank, is_one_line}
 use Rattle.graph_text.proofs.Fields.{is_solid, Begins}
 use Rattle.graph_text.proofs.Passes.{first_true, second_true}
 

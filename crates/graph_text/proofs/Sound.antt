@@ -12,7 +12,8 @@ use Rattle.graph_defs.specs.declared.plain.PlainEdge.{PlainEdge}
 use Rattle.graph_defs.specs.declared.plain.PlainGraph.{PlainGraph}
 use Rattle.graph_defs.specs.declared.plain.TextKind.{TextKind}
 use Rattle.graph_defs.specs.declared.plain.TextKind.TheVariants as kinds
-use Rattle.graph_defs.specs.Plain.{is_void, is_one_line, is_paired, are_paired, IsTypeName, IsLabelOf, IsPlainEdge}
+use Rattle.leda_base.specs.Bytes.{is_one_line}
+use Rattle.graph_defs.specs.Plain.{is_void, is_paired, are_paired, IsTypeName, IsLabelOf, IsPlainEdge}
 use Rattle.graph_text.specs.declared.fault.Fault.{Fault}
 use Rattle.graph_text.specs.Lines.{Line, Unread, all_of, lines_of}
 use Rattle.graph_text.specs.Parts.{field, behind, within, number_in, label_of}

@@ -2,11 +2,11 @@
 use Rattle.std.proofs.Common.{◌≡◌, ℕ, suc, ◌-◌, ◌≤◌, Bool, true, false, ◌&&◌, ◌==◌, not, List, [], ◌∷◌, length, get_or, cond, refl, sym, ap, ◌∙◌, arith}
 use Rattle.std.specs.List.{AllByRecursion}
 use Rattle.std.proofs.lemmas.Bool.Decides.{nat_tests}
-use Rattle.graph_defs.specs.Plain.{is_blank, is_one_line}
-use Rattle.graph_text.specs.Lines.{unindented, trimmed, visible, is_skipped}
+use Rattle.leda_base.specs.Bytes.{is_blank, trimmed, is_one_line}
+use Rattle.graph_text.specs.Lines.{unindented, visible, is_skipped}
 use Rattle.graph_text.specs.Text.{kept}
 use Rattle.graph_text.proofs.Passes.{first_true, second_true}
-use Rattle.graph_text.proofs.Trims.{trimmed-keep}
+use Rattle.leda_base.proofs.Trims.{trimmed-keep}
 
 -- 1 byte or more of one line, the first no blank and no mark of a comment, the last no blank
 pub record Stands (line : List ℕ) : Type 0 where

@@ -1,8 +1,9 @@
 -- The lines of a text, and which of them count.
-use Rattle.std.specs.Prelude.{ℕ, ◌+◌, Bool, true, ◌&&◌, ◌==◌, nat_lt, if◌then◌else◌, List, [], ◌∷◌, length, Option, Some, None, Result, Ok, Err}
+use Rattle.std.specs.Prelude.{ℕ, ◌+◌, Bool, true, ◌==◌, nat_lt, if◌then◌else◌, List, [], ◌∷◌, length, Option, Some, None, Result, Ok, Err}
 use Rattle.std.specs.List.{onto_first}
-use Rattle.graph_defs.specs.Plain.{is_blank}
+use Rattle.leda_base.specs.Bytes.{is_blank, trimmed}
 use Rattle.graph_defs.specs.declared.plain.TextKind.TheVariants.{Limit}
+use Rattle.graph_text.specs.declared.line.TheConstants.{LINE_LIMIT}
 use Rattle.graph_text.specs.declared.fault.Fault.{Fault}
 
 -- the lines of a text, each up to an LF or, the last one, up to the end
@@ -14,11 +15,6 @@ lines_of (b ∷ bs) = if b == 10 then [] ∷ lines_of bs else onto_first b (line
 abbrev pub unindented : List ℕ → List ℕ
 unindented [] = []
 unindented (b ∷ bs) = if is_blank b then unindented bs else b ∷ bs
-
--- bytes without the blanks at their end
-abbrev pub trimmed : List ℕ → List ℕ
-trimmed [] = []
-trimmed (b ∷ bs) = if is_blank b && length (trimmed bs) == 0 then [] else b ∷ trimmed bs
 
 -- what of a line counts: all without the blanks round it
 abbrev pub visible : List ℕ → List ℕ
@@ -47,7 +43,7 @@ all_of text = record { number = 1; lines = lines_of text }
 abbrev pub next_from : ℕ → List (List ℕ) → Result (Option Line × Unread) Fault
 next_from number [] = Ok (None, record { number = number; lines = [] })
 next_from number (line ∷ lines) =
-    if nat_lt 65536 (length line) then Err (record { kind = Limit; line = number })
+    if nat_lt LINE_LIMIT (length line) then Err (record { kind = Limit; line = number })
     else if is_skipped (visible line) then next_from (number + 1) lines
     else Ok (
       Some (record { number = number; bytes = visible line }),

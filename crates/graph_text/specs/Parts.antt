@@ -2,7 +2,7 @@
 use Rattle.std.specs.Prelude.{ℕ, ◌-◌, ◌&&◌, nat_eq, nat_le, if◌then◌else◌, List, [], ◌∷◌, length, take, drop, codes, Option, Some, None}
 use Rattle.std.specs.List.{starts_with, ends_with}
 use Rattle.leda_base.specs.Decimal.{natural_of}
-use Rattle.graph_defs.specs.Plain.{is_blank}
+use Rattle.leda_base.specs.Bytes.{is_blank}
 use Rattle.graph_text.specs.Lines.{unindented}
 
 -- the field that bytes begin with: all up to the first blank

@@ -2,6 +2,9 @@
 use Rattle.std.specs.Prelude.{ℕ, zero, suc, ◌+◌, ◌-◌, Bool, true, false, ◌&&◌, ◌==◌, not, nat_eq, nat_lt, if◌then◌else◌, List, [], ◌∷◌, length, map, codes, bytes_eq, Option, Some, None, Result, Ok, Err}
 use Rattle.std.specs.List.{starts_with}
 use Rattle.leda_base.specs.Decimal.{natural_of}
+use Rattle.leda_base.specs.declared.name.TheConstants.{LABEL_LIMIT}
+use Rattle.graph_defs.specs.declared.net.TheConstants.{NODE_LIMIT, ARC_LIMIT}
+use Rattle.graph_defs.specs.declared.plain.TheConstants.{TYPE_LIMIT}
 use Rattle.graph_defs.specs.declared.plain.PlainEdge.{PlainEdge}
 use Rattle.graph_defs.specs.declared.plain.PlainGraph.{PlainGraph}
 use Rattle.graph_defs.specs.declared.plain.TextKind.{TextKind}
@@ -56,7 +59,7 @@ header_in line =
 -- the name of a type
 abbrev pub type_in : Line → Result (List ℕ) Fault
 type_in line =
-    if nat_lt 255 (length line.bytes) then Err (fault_at kinds.Limit line.number) else Ok line.bytes
+    if nat_lt TYPE_LIMIT (length line.bytes) then Err (fault_at kinds.Limit line.number) else Ok line.bytes
 
 -- whether the graph is directed, if the line says so
 abbrev pub direction_in : Line → Result (Option Bool) Fault
@@ -78,7 +81,7 @@ count_in most line = count_within most line.number (natural_of line.bytes)
 -- a label of at most 60,000 bytes, which is empty where there are no labels
 abbrev pub label_within : Bool → ℕ → List ℕ → Result (List ℕ) Fault
 label_within void line label =
-    if nat_lt 60000 (length label) then Err (fault_at kinds.Limit line)
+    if nat_lt LABEL_LIMIT (length label) then Err (fault_at kinds.Limit line)
     else if void && not (length label == 0) then Err (fault_at kinds.Label line)
     else Ok label
 
@@ -155,11 +158,11 @@ pub record Way : Type 0 where
 -- the number of nodes behind a line that has the direction, or in the line that doesn't have it
 unfoldable pub nodes_behind : Option Bool → Line → Unread → Result (Way × Unread) Fault
 nodes_behind None line unread = do
-  nodes ← count_in 100000 line
+  nodes ← count_in NODE_LIMIT line
   Ok (record { directed = true; nodes = nodes }, unread)
 nodes_behind (Some directed) line unread = do
   next ← line_of unread
-  nodes ← count_in 100000 next.0
+  nodes ← count_in NODE_LIMIT next.0
   Ok (record { directed = directed; nodes = nodes }, next.1)
 
 unfoldable pub way_of : Unread → Result (Way × Unread) Fault
@@ -191,7 +194,7 @@ head_of unread = do
 unfoldable pub edges_of : ℕ → Bool → Unread → Result (List Placed × Unread) Fault
 edges_of nodes void unread = do
   line ← line_of unread
-  edges ← count_in 400000 line.0
+  edges ← count_in ARC_LIMIT line.0
   many_of (edge_in (record { nodes = nodes; edges = edges; void = void })) edges line.1
 
 -- the edges without their lines

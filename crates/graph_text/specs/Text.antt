@@ -4,10 +4,12 @@ use Rattle.std.specs.List.{filter, list_all, AllByRecursion, AllZip}
 use Rattle.leda_base.specs.Decimal.{natural_of}
 use Rattle.graph_defs.specs.declared.plain.PlainEdge.{PlainEdge}
 use Rattle.graph_defs.specs.declared.plain.PlainGraph.{PlainGraph}
+use Rattle.graph_text.specs.declared.line.TheConstants.{LINE_LIMIT}
 use Rattle.graph_text.specs.declared.fault.Fault.{Fault}
 use Rattle.graph_text.specs.declared.fault.TextRefusal.{TextRefusal}
 use Rattle.graph_text.specs.declared.fault.TextRefusal.TheVariants.{At, NoMemory}
-use Rattle.graph_defs.specs.Plain.{is_blank, IsPlainGraph}
+use Rattle.leda_base.specs.Bytes.{is_blank}
+use Rattle.graph_defs.specs.Plain.{IsPlainGraph}
 use Rattle.graph_text.specs.Lines.{lines_of, visible, is_skipped}
 use Rattle.graph_text.specs.Reading.{reading_of}
 use Rattle.graph_text.specs.Written.{direction_text, label_text, reversal_number}
@@ -18,7 +20,7 @@ kept lines = filter (λ line. not (is_skipped line)) (map visible lines)
 
 -- no line is longer than a line may be
 abbrev pub AreShort : List (List ℕ) → Type 0
-AreShort lines = AllByRecursion (λ line. length line ≤ 65536) lines
+AreShort lines = AllByRecursion (λ line. length line ≤ LINE_LIMIT) lines
 
 -- the line of the direction, which may be missing where the graph is directed
 abbrev pub AreDirection : Bool → List (List ℕ) → Type 0

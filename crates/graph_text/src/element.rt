@@ -8,11 +8,8 @@ use crate::head::count;
 use crate::line::{Line, Lines};
 use crate::part::{label_of, number_in, split_field};
 use graph_defs::{ARC_LIMIT, PlainEdge, TextKind};
-use leda_base::{NoMemory, Row};
+use leda_base::{LABEL_LIMIT, NoMemory, Row};
 use std::alloc::Global;
-
-/// How many bytes a label may have.
-const LABEL_LIMIT: usize = 60_000;
 
 /// How many nodes and edges there are, and whether edges have no labels.
 #[derive(Clone, Copy)]
@@ -54,7 +51,6 @@ pub(crate) fn read_edges(
     void: bool,
     lines: &mut Lines<'_>,
 ) -> Result<Edges, TextRefusal>
-    requires { nodes ≤ 100000 }
     ensures read { GivesOn edges_seen result lines.new (edges_of nodes void lines.old) }
     ensures lengths { IfOk result (λ edges. length edges.edges ≡ length edges.lines) }
 {
@@ -65,8 +61,6 @@ pub(crate) fn read_edges(
 
 /// Reads a line for each edge.
 fn read_edge_lines(alloc: Global, sizes: Sizes, lines: &mut Lines<'_>) -> Result<Edges, TextRefusal>
-    requires nodes { sizes.nodes ≤ 100000 }
-    requires edges { sizes.edges ≤ 400000 }
     ensures read { GivesOn edges_seen result lines.new
         (many_of (edge_in (sizes_seen sizes)) sizes.edges lines.old) }
     ensures lengths { IfOk result (λ edges. length edges.edges ≡ length edges.lines) }
@@ -88,8 +82,6 @@ fn read_edge_lines(alloc: Global, sizes: Sizes, lines: &mut Lines<'_>) -> Result
 /// An edge by its line.
 #[tactic(auto, unfolding(crate::specs::Reading::edge_in))]
 fn edge(alloc: Global, sizes: Sizes, line: Line<'_>) -> Result<PlainEdge, TextRefusal>
-    requires nodes { sizes.nodes ≤ 100000 }
-    requires edges { sizes.edges ≤ 400000 }
     ensures { Gives (λ edge. record { line = line.entry.number; edge = edge }) result
         (edge_in (sizes_seen sizes) (line_seen line.entry)) }
 {
@@ -111,7 +103,6 @@ fn edge(alloc: Global, sizes: Sizes, line: Line<'_>) -> Result<PlainEdge, TextRe
 /// The place of a node, of so many.
 #[tactic(auto, unfolding(crate::specs::Reading::end_in))]
 fn end(nodes: u32, line: u32, field: &[u8]) -> Result<u32, Fault>
-    requires { nodes ≤ 100000 }
     ensures { Reads (λ x. x) result (end_in nodes line field.now) }
 {
     match number_in(1, nodes, field) {
@@ -123,7 +114,6 @@ fn end(nodes: u32, line: u32, field: &[u8]) -> Result<u32, Fault>
 /// The place of an edge, of so many, or none where the field is 0.
 #[tactic(auto, unfolding(crate::specs::Reading::reversal_in))]
 fn reversal(edges: u32, line: u32, field: &[u8]) -> Result<Option<u32>, Fault>
-    requires { edges ≤ 400000 }
     ensures { Reads (λ x. x) result (reversal_in edges line field.now) }
 {
     match number_in(0, edges, field) {

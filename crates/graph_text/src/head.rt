@@ -5,11 +5,8 @@ ghost use Rattle.graph_text.specs.Gives.{line_seen, head_seen, way_seen, Reads, 
 
 use crate::fault::Fault;
 use crate::line::{Line, Lines};
-use crate::part::natural_of;
-use graph_defs::{NODE_LIMIT, TextKind};
-
-/// How many bytes the name of a type may have.
-const TYPE_LIMIT: usize = 255;
+use graph_defs::{NODE_LIMIT, TYPE_LIMIT, TextKind};
+use leda_base::natural_of;
 
 /// The types, the direction, and how many nodes there are.
 #[derive(Clone, Copy)]
@@ -102,15 +99,14 @@ fn direction(line: Line<'_>) -> Result<Option<bool>, Fault>
 
 /// A number of nodes or edges, and at most `most`.
 pub(crate) fn count(most: u32, line: Line<'_>) -> Result<u32, Fault>
-    requires { most ≤ 400000 }
     ensures read { Reads (λ x. x) result (count_in most (line_seen line.entry)) }
     ensures few { IfOk result (λ count. count ≤ most) }
 {
     let Some(number) = natural_of(line.bytes) else {
         return Err(line.fault(TextKind::Count));
     };
-    if number > most {
-        return Err(line.fault(TextKind::Limit));
+    match u32::try_from(number) {
+        Ok(number) if number <= most => Ok(number),
+        _ => Err(line.fault(TextKind::Limit)),
     }
-    Ok(number)
 }

@@ -1,13 +1,13 @@
 //! The lines of a text.
 ghost use Rattle.std.specs.Prelude.{◌≡◌, ◌+◌, ◌<◌, ◌≤◌, ◌∷◌, [], true, length, option_map, MatchOption};
-ghost use Rattle.graph_defs.specs.Plain.{is_blank};
-ghost use Rattle.graph_text.specs.Lines.{lines_of, unindented, trimmed, visible, is_skipped, all_of, next_of};
+ghost use Rattle.graph_text.specs.Lines.{lines_of, unindented, visible, is_skipped, all_of, next_of};
 ghost use Rattle.graph_text.specs.Gives.{line_seen, Reads, ReadsOn};
 ghost use Rattle.graph_text.specs.Reading.{line_of, end_of};
 
 use crate::fault::Fault;
 use crate::reading::TEXT_LIMIT;
 use graph_defs::TextKind;
+use leda_base::{is_blank, trimmed};
 use memchr::memchr;
 use std::marker::Model;
 
@@ -40,13 +40,14 @@ pub(crate) struct Lines<'a> {
 
 impl<'a> Model for Lines<'a> {
     ghost use Rattle.std.specs.Prelude.{◌+◌, ◌≤◌, length};
+    ghost use Rattle.graph_text.specs.declared.reading.TheConstants.{TEXT_LIMIT};
     ghost use Rattle.graph_text.specs.Lines.{Unread, lines_of};
 
     ghost Value = { Unread };
 
     ghost view = { λ l. record { number = l.number; lines = lines_of l.rest.now } };
 
-    ghost invariant = { λ l. l.number + length l.rest.now ≤ 268435457 };
+    ghost invariant = { λ l. l.number + length l.rest.now ≤ TEXT_LIMIT + 1 };
 }
 
 impl<'a> Lines<'a> {
@@ -146,12 +147,6 @@ fn split_line(bytes: &[u8]) -> (&[u8], &[u8])
     }
 }
 
-pub(crate) fn is_blank(byte: u8) -> bool
-    ensures { result ≡ is_blank byte }
-{
-    byte == b' ' || byte == b'\t' || byte == b'\r'
-}
-
 /// The bytes without the blanks in front of them.
 pub(crate) fn unindented(bytes: &[u8]) -> &[u8]
     ensures value { result.now ≡ unindented bytes.now }
@@ -162,19 +157,6 @@ pub(crate) fn unindented(bytes: &[u8]) -> &[u8]
         && is_blank(*first)
     {
         rest = behind;
-    }
-    rest
-}
-
-/// The bytes without the blanks at their end.
-fn trimmed(bytes: &[u8]) -> &[u8]
-    ensures { result.now ≡ trimmed bytes.now }
-{
-    let mut rest = bytes;
-    while let [front @ .., last] = rest
-        && is_blank(*last)
-    {
-        rest = front;
     }
     rest
 }

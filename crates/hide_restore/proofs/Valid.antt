@@ -7,7 +7,8 @@ use Rattle.std.specs.Option.{option_map_or}
 use Rattle.std.specs.FinMap as map_of
 use Rattle.std.proofs.lemmas.List.{length-map}
 use Rattle.graph_defs.specs.declared.plain.PlainEdge.{PlainEdge}
-use Rattle.graph_defs.specs.Plain.{is_one_line, IsTypeName, is_void, IsLabelOf, is_number, leads_back, may_have, is_paired, are_paired, IsPlainEdge, IsPlainGraph}
+use Rattle.leda_base.specs.Bytes.{is_one_line}
+use Rattle.graph_defs.specs.Plain.{IsTypeName, is_void, IsLabelOf, is_number, leads_back, may_have, is_paired, are_paired, IsPlainEdge, IsPlainGraph}
 use Rattle.graph_state.specs.State.{GraphState, source, target, node_label, edge_label, visible_nodes}
 use Rattle.graph_state.specs.Names.{Has, IsOnce}
 use Rattle.graph_state.specs.Formed.{IsFormed, IsKeptType, IsLabel}

@@ -34,20 +34,20 @@ fn are_digits(text: &[u8]) -> bool
     !text.is_empty() && has_only_digits(text)
 }
 
-// The number that digits write, or `u64::MAX` where it is larger. None where these aren't one or
-// more digits.
-fn magnitude_of(digits: &[u8]) -> Option<u64>
-    ensures { result ≡ option_map (λ n. min n (2 ^ 64 - 1)) (natural_of digits.now) }
+/// The number that digits write, or `u64::MAX` where it is larger. None where the text isn't one or
+/// more digits.
+pub fn natural_of(text: &[u8]) -> Option<u64>
+    ensures { result ≡ option_map (λ n. min n (2 ^ 64 - 1)) (natural_of text.now) }
 {
-    if !are_digits(digits) {
+    if !are_digits(text) {
         return None;
     }
-    let mut magnitude = 0u64;
-    for digit in digits {
+    let mut number = 0u64;
+    for digit in text {
         let value = digit.saturating_sub(b'0');
-        magnitude = magnitude.saturating_mul(10).saturating_add(value as u64);
+        number = number.saturating_mul(10).saturating_add(value as u64);
     }
-    Some(magnitude)
+    Some(number)
 }
 
 /// Reads an optional `-` and one or more digits. Leading zeros are allowed, and any number of
@@ -64,11 +64,11 @@ pub fn read_i64(text: &[u8]) -> Result<i64, NumFault>
 {
     let value = match text {
         [b'-', digits @ ..] => {
-            let magnitude = magnitude_of(digits).ok_or(NumFault::NotNumber)?;
+            let magnitude = natural_of(digits).ok_or(NumFault::NotNumber)?;
             0i64.checked_sub_unsigned(magnitude)
         }
         digits => {
-            let magnitude = magnitude_of(digits).ok_or(NumFault::NotNumber)?;
+            let magnitude = natural_of(digits).ok_or(NumFault::NotNumber)?;
             0i64.checked_add_unsigned(magnitude)
         }
     };
@@ -109,6 +109,20 @@ mod tests {
             ("99999999999999999999x", Err(NumFault::NotNumber)),
         ] {
             assert_eq!(rt; read_i64(text.as_bytes()), want, "at {text}");
+        }
+    }
+
+    #[test]
+    fn digits_are_read_as_naturals(rt: HostRuntime) {
+        for (text, want) in [
+            ("007", Some(7)),
+            ("18446744073709551615", Some(u64::MAX)),
+            ("18446744073709551617", Some(u64::MAX)),
+            ("", None),
+            ("-1", None),
+            ("1x", None),
+        ] {
+            assert_eq!(rt; natural_of(text.as_bytes()), want, "at {text}");
         }
     }
 

@@ -7,7 +7,8 @@ use Rattle.reply_text.specs.declared.refusal.ObjectName.{ObjectName}
 use Rattle.reply_text.specs.declared.refusal.ObjectName.TheVariants as objects
 use Rattle.reply_text.specs.declared.refusal.Refusal.{Refusal}
 use Rattle.reply_text.specs.declared.refusal.Refusal.TheVariants as refusals
-use Rattle.reply_text.specs.Words.{item_word, kept_word, kind_word}
+use Rattle.graph_defs.specs.Query.{kept_word}
+use Rattle.reply_text.specs.Words.{item_word, kind_word}
 
 -- an object by its name, by an item of another container, or by the sort of what isn't kept
 abbrev pub object_word : ObjectName → List ℕ

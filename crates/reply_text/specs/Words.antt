@@ -8,8 +8,6 @@ use Rattle.graph_defs.specs.declared.answer.Reach.{Reach}
 use Rattle.graph_defs.specs.declared.answer.Reach.TheVariants.{Walk, Closed}
 use Rattle.graph_defs.specs.declared.plain.TextKind.{TextKind}
 use Rattle.graph_defs.specs.declared.plain.TextKind.TheVariants as kinds
-use Rattle.graph_defs.specs.declared.query.Kept.{Kept}
-use Rattle.graph_defs.specs.declared.query.Kept.TheVariants as sorts
 use Rattle.reply_text.specs.declared.reply.CellShow.{CellShow}
 use Rattle.reply_text.specs.declared.reply.ReplyLine.{ReplyLine}
 use Rattle.reply_text.specs.declared.reply.ReplyLine.TheVariants.{Empty, Nil, Num, Two, Name, Names, Cells, Label}
@@ -55,16 +53,6 @@ line_words (Label label) = label_word label ∷ []
 abbrev pub reach_words : List ℕ → List ℕ → Reach → List (List ℕ)
 reach_words nodes edges (Walk arcs) = codes "walk" ∷ words_at (codes "e") edges arcs
 reach_words nodes edges (Closed set) = codes "closed" ∷ words_at (codes "n") nodes set
-
--- the sort of a kept answer
-abbrev pub kept_word : Kept → List ℕ
-kept_word sorts.Sp = codes "sp"
-kept_word sorts.Maxflow = codes "maxflow"
-kept_word sorts.Mincost = codes "mincost"
-kept_word sorts.Mcf = codes "mcf"
-kept_word sorts.Matching = codes "matching"
-kept_word sorts.Assign = codes "assign"
-kept_word sorts.Planar = codes "planar"
 
 -- what is wrong with the text of a graph
 abbrev pub kind_word : TextKind → List ℕ

@@ -1,6 +1,5 @@
 //! Why a line was refused, and the words that say it.
 ghost use Rattle.std.specs.Prelude.{◌≡◌, ◌≤◌, length};
-ghost use Rattle.reply_text.specs.Words.{kept_word as the_kept_word};
 ghost use Rattle.reply_text.specs.Refusals.{reason, subject, IsRefusalNamed};
 ghost use Rattle.reply_text.specs.Appending.{subject_words, IsSubjectShort};
 
@@ -160,7 +159,7 @@ impl Refusal {
             Refusal::Number(column) => Subject::Number(i128::from(*column)),
             Refusal::Object(ObjectName::Name(name)) => Subject::Word(name.as_slice()),
             Refusal::Object(ObjectName::Cell(number)) => Subject::Item(ItemName::Cell(*number)),
-            Refusal::Object(ObjectName::Kept(kept)) => Subject::Word(kept_word(*kept)),
+            Refusal::Object(ObjectName::Kept(kept)) => Subject::Word(kept.word()),
             Refusal::Unknown(name) => Subject::Item(*name),
             Refusal::Dead(name) => Subject::Item(*name),
             Refusal::Hidden(name) => Subject::Item(*name),
@@ -181,21 +180,5 @@ impl Refusal {
             Refusal::File(kind, line) => Subject::Text(*kind, *line),
             _ => Subject::Nothing,
         }
-    }
-}
-
-/// The word of a sort of answers.
-fn kept_word(kept: Kept) -> &'static [u8]
-    ensures word { result.now ≡ the_kept_word kept }
-    ensures short { length result.now ≤ 8 }
-{
-    match kept {
-        Kept::Sp => b"sp",
-        Kept::Maxflow => b"maxflow",
-        Kept::Mincost => b"mincost",
-        Kept::Mcf => b"mcf",
-        Kept::Matching => b"matching",
-        Kept::Assign => b"assign",
-        Kept::Planar => b"planar",
     }
 }

@@ -2,15 +2,16 @@
 use Rattle.std.proofs.Common.{◌≡◌, ℕ, ◌+◌, ◌<◌, ◌≤◌, Bool, true, false, List, length, nat_lt, nat_le, Err, refl, sym, ◌∙◌, ap, arith}
 use Rattle.std.proofs.lemmas.Bool.Decides.{nat_tests}
 use Rattle.std.proofs.lemmas.List.{take_all, length-take-le}
+use Rattle.script_text.specs.declared.line.TheConstants.{LINE_LIMIT}
 use Rattle.script_text.specs.declared.line.LineRefusal.TheVariants.{LongLine}
 use Rattle.script_text.specs.Table.{table}
 use Rattle.script_text.specs.Line.{line_limit, read_line, meaning_of, line_of, kept_most, kept_of}
 
-pub line_limit-is : line_limit ≡ 65536
+pub line_limit-is : line_limit ≡ LINE_LIMIT
 unfolding line_limit
 line_limit-is = refl
 
-pub kept_most-is : kept_most ≡ 65537
+pub kept_most-is : kept_most ≡ LINE_LIMIT + 1
 unfolding kept_most line_limit
 kept_most-is = refl
 

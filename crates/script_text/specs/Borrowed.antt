@@ -2,6 +2,7 @@
 use Rattle.std.specs.Prelude.{◌≡◌, ℕ, ◌+◌, ◌≤◌, Bool, true, false, nat_le, List, [], ◌∷◌, length, drop, Option, Some, None, Result, Ok, Err}
 use Rattle.std.specs.List.{list_all}
 use Rattle.std.specs.Borrow.{Bor}
+use Rattle.script_text.specs.declared.line.TheConstants.{LINE_LIMIT}
 use Rattle.script_text.specs.declared.argument.Arg.{Arg}
 use Rattle.script_text.specs.declared.argument.Arg.TheVariants as args
 use Rattle.script_text.specs.declared.argument.ArgRef.{ArgRef}
@@ -35,7 +36,7 @@ tokens_seen (Some token) =
 -- the token is a part of its tail, which ends within a line
 abbrev pub IsWithin : TokenRef → Type 0
 IsWithin token = (length token.bytes.now ≤ length token.tail.now)
-    × (token.column + length token.tail.now ≤ 65537)
+    × (token.column + length token.tail.now ≤ LINE_LIMIT + 1)
 
 -- an argument in the line
 abbrev pub arg_seen : ArgRef → Arg

@@ -5,6 +5,7 @@ use Rattle.script_text.specs.declared.argument.Arg.{Arg}
 use Rattle.script_text.specs.declared.argument.Misfit.{Misfit}
 use Rattle.script_text.specs.declared.argument.Misfit.TheVariants.{OtherForm, OutOfRange}
 use Rattle.script_text.specs.declared.form.Form.{Form}
+use Rattle.script_text.specs.declared.line.TheConstants.{LINE_LIMIT}
 use Rattle.script_text.specs.declared.line.Line.{Line}
 use Rattle.script_text.specs.declared.line.Line.TheVariants.{Command, Nothing}
 use Rattle.script_text.specs.declared.line.LineRefusal.{LineRefusal}
@@ -16,7 +17,7 @@ use Rattle.script_text.specs.Token.{Token, next_of, tokens_of, behind}
 
 -- how many bytes a line may have
 unfoldable pub line_limit : ℕ
-line_limit = 65536
+line_limit = LINE_LIMIT
 
 -- the arguments of a line, or the fault among them
 abbrev pub Args : Type 0

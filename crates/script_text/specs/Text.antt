@@ -4,9 +4,12 @@ use Rattle.std.specs.List.{starts_with, ends_with, list_all}
 use Rattle.std.specs.Char.{is_ascii_digit, is_ascii_alphanumeric, is_ascii_graphic}
 use Rattle.std.specs.Fmt.{decimal}
 use Rattle.std.specs.Str.Parse.{digits_value}
+use Rattle.leda_base.specs.Bytes.{is_one_line}
+use Rattle.leda_base.specs.declared.name.TheConstants.{NAME_LIMIT, LABEL_LIMIT}
 use Rattle.graph_defs.specs.declared.query.Kept.{Kept}
 use Rattle.graph_defs.specs.declared.query.Mode.{Mode}
-use Rattle.script_text.specs.declared.text.TheConstants.{NAME_LIMIT, LABEL_LIMIT, FILE_LIMIT, MODES, SORTS}
+use Rattle.graph_defs.specs.Query.{kept_word}
+use Rattle.script_text.specs.declared.text.TheConstants.{FILE_LIMIT, MODES, SORTS}
 
 -- digits that write a number from 1 to 4,294,967,295 without a leading 0
 abbrev pub is_item_number : List ℕ → Bool
@@ -60,7 +63,7 @@ is_name bytes =
 
 -- a label: at most 60,000 bytes, none of which ends a line
 abbrev pub is_label : List ℕ → Bool
-is_label bytes = nat_le (length bytes) LABEL_LIMIT && list_all (λ b. not (b == 10)) bytes
+is_label bytes = nat_le (length bytes) LABEL_LIMIT && is_one_line bytes
 
 -- what stands between the first two and the last two bytes
 abbrev pub between : List ℕ → List ℕ
@@ -93,4 +96,4 @@ mode_of = spelled (map (λ pair. (pair.0.now, pair.1)) MODES)
 
 -- the sort of a kept answer that bytes spell
 abbrev pub sort_of : List ℕ → Option Kept
-sort_of = spelled (map (λ pair. (pair.0.now, pair.1)) SORTS)
+sort_of bytes = find (λ kept. bytes_eq (kept_word kept) bytes) SORTS

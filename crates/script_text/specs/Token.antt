@@ -1,15 +1,7 @@
 -- The tokens of a line.
-use Rattle.std.specs.Prelude.{ℕ, ◌+◌, Bool, true, false, ◌&&◌, ◌||◌, ◌==◌, if◌then◌else◌, List, [], ◌∷◌, length, Option, Some, None}
+use Rattle.std.specs.Prelude.{ℕ, ◌+◌, Bool, true, false, if◌then◌else◌, List, [], ◌∷◌, length, Option, Some, None}
 use Rattle.std.specs.List.{before_first}
-
--- a blank is a space, a tab or a CR
-abbrev pub is_blank : ℕ → Bool
-is_blank b = b == 32 || (b == 9 || b == 13)
-
--- the bytes without the blanks at their end
-abbrev pub trimmed : List ℕ → List ℕ
-trimmed [] = []
-trimmed (b ∷ bs) = if is_blank b && length (trimmed bs) == 0 then [] else b ∷ trimmed bs
+use Rattle.leda_base.specs.Bytes.{is_blank, trimmed}
 
 -- a token: a longest run of bytes that aren't blanks; with the column of its first byte, and all
 -- that stands from there on in the line without the blanks at its end

@@ -1,17 +1,12 @@
 //! The texts of arguments: names of items and objects, labels, files, modes and kept sorts.
-ghost use Rattle.std.specs.Prelude.{◌≡◌, ◌++◌, ℕ, ◌≤◌, not, ◌==◌, length, codes, map, IsTrue, IfSome, IfNone, option_map};
+ghost use Rattle.std.specs.Prelude.{◌≡◌, ◌++◌, ℕ, ◌≤◌, length, codes, map, IsTrue, IfSome, IfNone, option_map};
 ghost use Rattle.std.specs.Char.{is_ascii_digit, is_ascii_graphic};
 ghost use Rattle.std.specs.List.{list_all};
 ghost use Rattle.std.specs.Str.Parse.{digits_value};
 ghost use Rattle.script_text.specs.Text.{IsItemName, item_number, number_of, is_item as the_item, is_name_byte, is_name as the_name, is_label as the_label, label_of as label_in, is_file as the_file, spelled as beside, mode_of as the_mode, sort_of as the_sort};
 
 use graph_defs::{Kept, Mode};
-
-/// How many bytes a name may have.
-pub(crate) const NAME_LIMIT: usize = 32;
-
-/// How many bytes a label may have.
-pub(crate) const LABEL_LIMIT: usize = 60_000;
+use leda_base::{LABEL_LIMIT, NAME_LIMIT, is_one_line};
 
 /// How many bytes the name of a file may have.
 pub(crate) const FILE_LIMIT: usize = 255;
@@ -23,15 +18,15 @@ pub(crate) const MODES: [(&str, Mode); 3] = [
     ("perfect_min", Mode::PerfectMin),
 ];
 
-/// The sorts of kept answers, by their spellings.
-pub(crate) const SORTS: [(&str, Kept); 7] = [
-    ("sp", Kept::Sp),
-    ("maxflow", Kept::Maxflow),
-    ("mincost", Kept::Mincost),
-    ("mcf", Kept::Mcf),
-    ("matching", Kept::Matching),
-    ("assign", Kept::Assign),
-    ("planar", Kept::Planar),
+/// The sorts of kept answers.
+pub(crate) const SORTS: [Kept; 7] = [
+    Kept::Sp,
+    Kept::Maxflow,
+    Kept::Mincost,
+    Kept::Mcf,
+    Kept::Matching,
+    Kept::Assign,
+    Kept::Planar,
 ];
 
 /// The number of an item's name: the letter of its sort, and then digits.
@@ -115,17 +110,11 @@ pub(crate) fn is_file(bytes: &[u8]) -> bool
     !bytes.is_empty() && bytes.len() <= FILE_LIMIT && has_graphic_bytes(bytes)
 }
 
-fn ends_no_line(bytes: &[u8]) -> bool
-    ensures { result ≡ list_all (λ b. not (b == 10)) bytes.now }
-{
-    bytes.iter().all(|byte| *byte != b'\n')
-}
-
 /// Whether bytes that stand in a line may be a label.
 fn is_label(bytes: &[u8]) -> bool
     ensures { result ≡ the_label bytes.now }
 {
-    bytes.len() <= LABEL_LIMIT && ends_no_line(bytes)
+    bytes.len() <= LABEL_LIMIT && is_one_line(bytes)
 }
 
 /// The label that bytes from `|{` to `}|` write.
@@ -156,5 +145,6 @@ pub(crate) fn mode_of(bytes: &[u8]) -> Option<Mode>
 pub(crate) fn sort_of(bytes: &[u8]) -> Option<Kept>
     ensures { result ≡ the_sort bytes.now }
 {
-    spelled(&SORTS, bytes)
+    let kept = SORTS.iter().find(|kept| kept.word() == bytes)?;
+    Some(*kept)
 }

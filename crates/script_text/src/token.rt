@@ -2,9 +2,11 @@
 ghost use Rattle.std.specs.Prelude.{◌≡◌, ◌+◌, ◌<◌, ◌≤◌, ◌∷◌, [], length, drop, MatchOption, IfSome, option_map, position, not};
 ghost use Rattle.std.specs.List.{position_or_len};
 ghost use Rattle.script_text.specs.Borrowed.{token_seen, tokens_seen, IsWithin};
-ghost use Rattle.script_text.specs.Token.{is_blank as blank, trimmed as without_blanks, next_of, tokens_from, tokens_of};
+ghost use Rattle.leda_base.specs.Bytes.{is_blank};
+ghost use Rattle.script_text.specs.Token.{next_of, tokens_from, tokens_of};
 
 use crate::line::LINE_LIMIT;
+use leda_base::{is_blank, trimmed};
 use std::marker::Model;
 
 /// A token, with the column of its first byte, and all that stands from there on in its line,
@@ -89,7 +91,7 @@ impl<'a> Tokens<'a> {
 
 /// The first token of bytes that don't end with a blank, the first of which stands in the column.
 fn first_token(column: u32, bytes: &[u8]) -> Option<Token<'_>>
-    requires { column + length bytes.now ≤ 65537 }
+    requires { column + length bytes.now ≤ LINE_LIMIT + 1 }
     ensures tokens { tokens_seen result ≡ tokens_from column bytes.now }
     ensures within { IfSome result IsWithin }
 {
@@ -103,29 +105,9 @@ fn first_token(column: u32, bytes: &[u8]) -> Option<Token<'_>>
     })
 }
 
-fn is_blank(byte: u8) -> bool
-    ensures { result ≡ blank byte }
-{
-    byte == b' ' || byte == b'\t' || byte == b'\r'
-}
-
-/// The bytes without the blanks at their end.
-fn trimmed(line: &[u8]) -> &[u8]
-    ensures value { result.now ≡ without_blanks line.now }
-    ensures within { length result.now ≤ length line.now }
-{
-    let mut bytes = line;
-    while let [front @ .., last] = bytes
-        && is_blank(*last)
-    {
-        bytes = front;
-    }
-    bytes
-}
-
 /// The place of the first byte that is no blank.
 fn first_visible(bytes: &[u8]) -> Option<usize>
-    ensures place { result ≡ position (λ b. not (blank b)) bytes.now }
+    ensures place { result ≡ position (λ b. not (is_blank b)) bytes.now }
     ensures within { IfSome result (λ k. k < length bytes.now) }
 {
     bytes.iter().position(|byte| !is_blank(*byte))
@@ -133,7 +115,7 @@ fn first_visible(bytes: &[u8]) -> Option<usize>
 
 /// The place of the first blank.
 fn first_blank(bytes: &[u8]) -> Option<usize>
-    ensures place { result ≡ position blank bytes.now }
+    ensures place { result ≡ position is_blank bytes.now }
     ensures within { IfSome result (λ k. k < length bytes.now) }
 {
     bytes.iter().position(|byte| is_blank(*byte))
@@ -141,7 +123,7 @@ fn first_blank(bytes: &[u8]) -> Option<usize>
 
 /// How many bytes come before the first blank.
 fn token_len(bytes: &[u8]) -> usize
-    ensures len { result ≡ position_or_len blank bytes.now }
+    ensures len { result ≡ position_or_len is_blank bytes.now }
     ensures within { result ≤ length bytes.now }
 {
     first_blank(bytes).unwrap_or(bytes.len())

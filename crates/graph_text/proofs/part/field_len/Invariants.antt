@@ -1,5 +1,5 @@
 use Rattle.std.proofs.Common.{◌≡◌, ◌≤◌, ◌<◌, ◌-◌, ℕ, false, length, get_or}
-use Rattle.graph_defs.specs.Plain.{is_blank}
+use Rattle.leda_base.specs.Bytes.{is_blank}
 use Rattle.graph_text.proofs.part.field_len.Given as goal
 
 abbrev pub invariant-loop-len : goal.invariant-loop-len

@@ -2,8 +2,7 @@
 use Rattle.std.proofs.Common.{◌≡◌, ℕ, ◌+◌, ◌-◌, ◌<◌, ◌≤◌, Bool, true, false, List, [], ◌∷◌, ◌++◌, ◌==◌, ◌&&◌, if◌then◌else◌, length, length-append, get_or, take, refl, sym, ◌∙◌, ap, arith}
 use Rattle.std.proofs.lemmas.Bool.Decides.{nat_tests}
 use Rattle.std.proofs.lemmas.List.{take_all, take_more}
-use Rattle.graph_defs.specs.Plain.{is_blank}
-use Rattle.graph_text.specs.Lines.{trimmed}
+use Rattle.leda_base.specs.Bytes.{is_blank, trimmed}
 
 -- a blank at the end doesn't count
 trimmed-blank : (front : List ℕ) (last : ℕ) → is_blank last ≡ true

@@ -2,8 +2,8 @@
 use Rattle.std.proofs.Common.{◌≡◌, ◌-◌, ◌^◌, min, take}
 use Rattle.std.specs.List.{fold}
 use Rattle.leda_base.specs.Decimal.{with_digit}
-use Rattle.leda_base.proofs.number.magnitude_of.Given as goal
+use Rattle.leda_base.proofs.number.natural_of.Given as goal
 
 abbrev pub invariant-loop-digit : goal.invariant-loop-digit
-invariant-loop-digit l = l.magnitude ≡ min (fold with_digit 0 (take l.digit-index l.digits))
+invariant-loop-digit l = l.number ≡ min (fold with_digit 0 (take l.digit-index l.text))
     (2 ^ 64 - 1)
