@@ -4,6 +4,7 @@ use Rattle.std.proofs.Common.{length-append}
 use lib.ListN.{length-set, length-replicate}
 use Rattle.std.proofs.lemmas.List.{get_or-set_same, get_or-set_other, get_or_default, get_or_past, get_or_append_left, get_or-append_right}
 use Rattle.std.proofs.lemmas.Bool.{cases_eq, cases_lt}
+use Rattle.item_ring.specs.declared.block.TheConstants.{BLOCK}
 use Rattle.item_ring.specs.declared.block.Cell.{Cell}
 use Rattle.item_ring.specs.declared.block.Node.{Node}
 use Rattle.item_ring.specs.declared.cells.Link.{Link}
@@ -20,38 +21,38 @@ none_in : (s : ℕ) → node_at [] s ≡ None
 unfolding node_at
 none_in s = refl
 
-same_slot : (k s : ℕ) → k / 256 ≡ s / 256 → k % 256 ≡ s % 256 → k ≡ s
+same_slot : (k s : ℕ) → k / BLOCK ≡ s / BLOCK → k % BLOCK ≡ s % BLOCK → k ≡ s
 same_slot k s p q = omega arith
 
-pub in_block : (s room n : ℕ) → s < room → room ≡ 256 * n → s / 256 < n
+pub in_block : (s room n : ℕ) → s < room → room ≡ BLOCK * n → s / BLOCK < n
 in_block s room n lt e = omega arith
 
-pub place_below : (s : ℕ) → s % 256 < 256
+pub place_below : (s : ℕ) → s % BLOCK < BLOCK
 place_below s = omega arith
 
 -- what reading a block of the slot tells
-module _ (v : Slots) (are : AreNodes v) (s : ℕ) (lt : s < v.room) (row : NodeBlock) (found : row ≡ get_or v.blocks (s / 256) row) where
-  pub row_is : row ≡ get_or v.blocks (s / 256) no_block
-  row_is = found ∙ get_or_default v.blocks (s / 256) row no_block (in_block s v.room (length v.blocks) lt are.sized)
+module _ (v : Slots) (are : AreNodes v) (s : ℕ) (lt : s < v.room) (row : NodeBlock) (found : row ≡ get_or v.blocks (s / BLOCK) row) where
+  pub row_is : row ≡ get_or v.blocks (s / BLOCK) no_block
+  row_is = found ∙ get_or_default v.blocks (s / BLOCK) row no_block (in_block s v.room (length v.blocks) lt are.sized)
 
-  pub row_long : s % 256 < length row.slots
+  pub row_long : s % BLOCK < length row.slots
   row_long =
-      let P : NodeBlock → Type 0 = λ r. s % 256 < length r.slots in
-      let long = are.long (s / 256) (in_block s v.room (length v.blocks) lt are.sized) in
-      subst P (sym row_is) (subst (λ n. s % 256 < n) (sym long) (place_below s))
+      let P : NodeBlock → Type 0 = λ r. s % BLOCK < length r.slots in
+      let long = are.long (s / BLOCK) (in_block s v.room (length v.blocks) lt are.sized) in
+      subst P (sym row_is) (subst (λ n. s % BLOCK < n) (sym long) (place_below s))
 
-  pub place_is : place_of row (s % 256) ≡ address v.blocks s
+  pub place_is : place_of row (s % BLOCK) ≡ address v.blocks s
   unfolding address
-  place_is = ap (λ r. place_of r (s % 256)) row_is
+  place_is = ap (λ r. place_of r (s % BLOCK)) row_is
 
-  pub slot_is : get_or row.slots (s % 256) None ≡ node_at v.blocks s
+  pub slot_is : get_or row.slots (s % BLOCK) None ≡ node_at v.blocks s
   unfolding node_at
-  slot_is = ap (λ (r : NodeBlock). get_or r.slots (s % 256) None) row_is
+  slot_is = ap (λ (r : NodeBlock). get_or r.slots (s % BLOCK) None) row_is
 
-  pub is_filled : s < v.len → IsFilled row.slots (s % 256)
+  pub is_filled : s < v.len → IsFilled row.slots (s % BLOCK)
   is_filled used = let h = are.filled s used in (h.node, slot_is ∙ h.is)
 
-  pub reads : (n : Node) → s < v.len → get_or row.slots (s % 256) None ≡ Some n → (node_at v.blocks s ≡ Some n) × IsTied v n
+  pub reads : (n : Node) → s < v.len → get_or row.slots (s % BLOCK) None ≡ Some n → (node_at v.blocks s ≡ Some n) × IsTied v n
   reads n used e =
       let h = are.filled s used in
       let is : node_at v.blocks s ≡ Some n = sym slot_is ∙ e in
@@ -59,61 +60,61 @@ module _ (v : Slots) (are : AreNodes v) (s : ℕ) (lt : s < v.room) (row : NodeB
       (is, subst (λ x. IsTied v x) same h.tied)
 
 -- the blocks after a write to the slot s
-module _ (blocks : List NodeBlock) (s : ℕ) (row new : NodeBlock) (n : Node) (lt : s / 256 < length blocks) (row_is : row ≡ get_or blocks (s / 256) no_block)
-    (long : s % 256 < length row.slots) (same_at : new.at ≡ row.at) (stored : new.slots ≡ set row.slots (s % 256) (Some n)) where
+module _ (blocks : List NodeBlock) (s : ℕ) (row new : NodeBlock) (n : Node) (lt : s / BLOCK < length blocks) (row_is : row ≡ get_or blocks (s / BLOCK) no_block)
+    (long : s % BLOCK < length row.slots) (same_at : new.at ≡ row.at) (stored : new.slots ≡ set row.slots (s % BLOCK) (Some n)) where
   abbrev after : List NodeBlock
-  after = set blocks (s / 256) new
+  after = set blocks (s / BLOCK) new
 
-  written : get_or after (s / 256) no_block ≡ new
-  written = get_or-set_same blocks (s / 256) new no_block lt
+  written : get_or after (s / BLOCK) no_block ≡ new
+  written = get_or-set_same blocks (s / BLOCK) new no_block lt
 
-  others : (j : ℕ) → (j ≡ s / 256 → ⊥) → get_or after j no_block ≡ get_or blocks j no_block
-  others j ne = get_or-set_other blocks (s / 256) j new no_block ne
+  others : (j : ℕ) → (j ≡ s / BLOCK → ⊥) → get_or after j no_block ≡ get_or blocks j no_block
+  others j ne = get_or-set_other blocks (s / BLOCK) j new no_block ne
 
   pub wrote_here : node_at after s ≡ Some n
   unfolding node_at
   wrote_here =
-      ap (λ (r : NodeBlock). get_or r.slots (s % 256) None) written
-      ∙ ap (λ (cs : List (Option Node)). get_or cs (s % 256) None) stored
-      ∙ get_or-set_same row.slots (s % 256) (Some n) None long
+      ap (λ (r : NodeBlock). get_or r.slots (s % BLOCK) None) written
+      ∙ ap (λ (cs : List (Option Node)). get_or cs (s % BLOCK) None) stored
+      ∙ get_or-set_same row.slots (s % BLOCK) (Some n) None long
 
   pub wrote_else : (k : ℕ) → (k ≡ s → ⊥) → node_at after k ≡ node_at blocks k
   unfolding node_at
-  wrote_else k ne = elim (cases_eq (k / 256) (s / 256)) [
+  wrote_else k ne = elim (cases_eq (k / BLOCK) (s / BLOCK)) [
     | inl e ↦
-        let place_differs : k % 256 ≡ s % 256 → ⊥ = λ p. ne (same_slot k s e p) in
-        ap (λ j. get_or (get_or after j no_block).slots (k % 256) None) e
-        ∙ ap (λ (r : NodeBlock). get_or r.slots (k % 256) None) written
-        ∙ ap (λ (cs : List (Option Node)). get_or cs (k % 256) None) stored
-        ∙ get_or-set_other row.slots (s % 256) (k % 256) (Some n) None place_differs
-        ∙ ap (λ (r : NodeBlock). get_or r.slots (k % 256) None) row_is
-        ∙ ap (λ j. get_or (get_or blocks j no_block).slots (k % 256) None) (sym e)
-    | inr ne' ↦ ap (λ (r : NodeBlock). get_or r.slots (k % 256) None) (others (k / 256) ne')
+        let place_differs : k % BLOCK ≡ s % BLOCK → ⊥ = λ p. ne (same_slot k s e p) in
+        ap (λ j. get_or (get_or after j no_block).slots (k % BLOCK) None) e
+        ∙ ap (λ (r : NodeBlock). get_or r.slots (k % BLOCK) None) written
+        ∙ ap (λ (cs : List (Option Node)). get_or cs (k % BLOCK) None) stored
+        ∙ get_or-set_other row.slots (s % BLOCK) (k % BLOCK) (Some n) None place_differs
+        ∙ ap (λ (r : NodeBlock). get_or r.slots (k % BLOCK) None) row_is
+        ∙ ap (λ j. get_or (get_or blocks j no_block).slots (k % BLOCK) None) (sym e)
+    | inr ne' ↦ ap (λ (r : NodeBlock). get_or r.slots (k % BLOCK) None) (others (k / BLOCK) ne')
   ]
 
   pub wrote_stays : (k : ℕ) → address after k ≡ address blocks k
   unfolding address place_of
-  wrote_stays k = elim (cases_eq (k / 256) (s / 256)) [
+  wrote_stays k = elim (cases_eq (k / BLOCK) (s / BLOCK)) [
     | inl e ↦
-        ap (λ j. place_of (get_or after j no_block) (k % 256)) e
-        ∙ ap (λ (r : NodeBlock). place_of r (k % 256)) written
-        ∙ ap (λ p. place_of (record { at = p; slots = [] }) (k % 256)) same_at
-        ∙ ap (λ (r : NodeBlock). place_of r (k % 256)) row_is
-        ∙ ap (λ j. place_of (get_or blocks j no_block) (k % 256)) (sym e)
-    | inr ne ↦ ap (λ (r : NodeBlock). place_of r (k % 256)) (others (k / 256) ne)
+        ap (λ j. place_of (get_or after j no_block) (k % BLOCK)) e
+        ∙ ap (λ (r : NodeBlock). place_of r (k % BLOCK)) written
+        ∙ ap (λ p. place_of (record { at = p; slots = [] }) (k % BLOCK)) same_at
+        ∙ ap (λ (r : NodeBlock). place_of r (k % BLOCK)) row_is
+        ∙ ap (λ j. place_of (get_or blocks j no_block) (k % BLOCK)) (sym e)
+    | inr ne ↦ ap (λ (r : NodeBlock). place_of r (k % BLOCK)) (others (k / BLOCK) ne)
   ]
 
-  pub wrote_long : ((i : ℕ) → i < length blocks → length (get_or blocks i no_block).slots ≡ 256) → (i : ℕ) → i < length after → length (get_or after i no_block).slots ≡ 256
+  pub wrote_long : ((i : ℕ) → i < length blocks → length (get_or blocks i no_block).slots ≡ BLOCK) → (i : ℕ) → i < length after → length (get_or after i no_block).slots ≡ BLOCK
   wrote_long all i lt' =
-      let within : i < length blocks = subst (λ n. i < n) (length-set blocks (s / 256) new) lt' in
-      elim (cases_eq i (s / 256)) [
+      let within : i < length blocks = subst (λ n. i < n) (length-set blocks (s / BLOCK) new) lt' in
+      elim (cases_eq i (s / BLOCK)) [
         | inl e ↦
             ap (λ j. length (get_or after j no_block).slots) e
             ∙ ap (λ (r : NodeBlock). length r.slots) written
             ∙ ap length stored
-            ∙ length-set row.slots (s % 256) (Some n)
+            ∙ length-set row.slots (s % BLOCK) (Some n)
             ∙ ap (λ (r : NodeBlock). length r.slots) row_is
-            ∙ all (s / 256) lt
+            ∙ all (s / BLOCK) lt
         | inr ne ↦ ap (λ (r : NodeBlock). length r.slots) (others i ne) ∙ all i within
       ]
 
@@ -124,21 +125,21 @@ still_leads v w link s stays le h = record { there = h.there ∙ sym (stays s h.
 pub still_tied : (v w : Slots) (n : Node) → ((k : ℕ) → k < v.len → address w.blocks k ≡ address v.blocks k) → v.len ≤ w.len → IsTied v n → IsTied w n
 still_tied v w n stays le h = record { next = still_leads v w n.next n.cell.next stays le h.next; prev = still_leads v w n.prev n.cell.prev stays le h.prev }
 
-module _ (v : Slots) (are : AreNodes v) (s : ℕ) (used : s < v.len) (row new : NodeBlock) (n : Node) (found : row ≡ get_or v.blocks (s / 256) row)
-    (same_at : new.at ≡ row.at) (stored : new.slots ≡ set row.slots (s % 256) (Some n)) where
+module _ (v : Slots) (are : AreNodes v) (s : ℕ) (used : s < v.len) (row new : NodeBlock) (n : Node) (found : row ≡ get_or v.blocks (s / BLOCK) row)
+    (same_at : new.at ≡ row.at) (stored : new.slots ≡ set row.slots (s % BLOCK) (Some n)) where
   abbrev w : Slots
-  w = record v { blocks = set v.blocks (s / 256) new }
+  w = record v { blocks = set v.blocks (s / BLOCK) new }
 
   lt : s < v.room
   lt = omega (arith, are.within)
 
-  inside : s / 256 < length v.blocks
+  inside : s / BLOCK < length v.blocks
   inside = in_block s v.room (length v.blocks) lt are.sized
 
-  is : row ≡ get_or v.blocks (s / 256) no_block
+  is : row ≡ get_or v.blocks (s / BLOCK) no_block
   is = row_is v are s lt row found
 
-  long : s % 256 < length row.slots
+  long : s % BLOCK < length row.slots
   long = row_long v are s lt row found
 
   pub write_writes : Writes v w s n
@@ -153,7 +154,7 @@ module _ (v : Slots) (are : AreNodes v) (s : ℕ) (used : s < v.len) (row new : 
   pub write_keeps : IsTied v n → AreNodes w
   write_keeps tied = record {
     long = wrote_long v.blocks s row new n inside is long same_at stored are.long;
-    sized = are.sized ∙ ap (λ k. 256 * k) (sym (length-set v.blocks (s / 256) new));
+    sized = are.sized ∙ ap (λ k. BLOCK * k) (sym (length-set v.blocks (s / BLOCK) new));
     within = are.within;
     filled = λ k lt'. elim (cases_eq k s) [
       | inl e ↦ record { node = n; is = ap (node_at w.blocks) e ∙ write_writes.here; tied = still_tied v w n (λ j _. write_writes.stays j) (omega arith) tied }
@@ -168,22 +169,22 @@ pub below_room : (v : Slots) → AreNodes v → (s : ℕ) → s < v.len → s < 
 below_room v are s used = omega (arith, are.within)
 
 -- the slot after the last is brought into use
-module _ (v : Slots) (are : AreNodes v) (lt : v.len < v.room) (row new : NodeBlock) (link : Link) (cell : Cell) (found : row ≡ get_or v.blocks (v.len / 256) row)
+module _ (v : Slots) (are : AreNodes v) (lt : v.len < v.room) (row new : NodeBlock) (link : Link) (cell : Cell) (found : row ≡ get_or v.blocks (v.len / BLOCK) row)
     (leads : link.at ≡ address v.blocks v.len) (next_is : cell.next ≡ v.len) (prev_is : cell.prev ≡ v.len)
-    (same_at : new.at ≡ row.at) (stored : new.slots ≡ set row.slots (v.len % 256) (Some (record { next = link; prev = link; cell = cell }))) where
+    (same_at : new.at ≡ row.at) (stored : new.slots ≡ set row.slots (v.len % BLOCK) (Some (record { next = link; prev = link; cell = cell }))) where
   abbrev n : Node
   n = record { next = link; prev = link; cell = cell }
 
   abbrev u : Slots
-  u = record { blocks = set v.blocks (v.len / 256) new; len = v.len + 1; room = v.room }
+  u = record { blocks = set v.blocks (v.len / BLOCK) new; len = v.len + 1; room = v.room }
 
-  first_in : v.len / 256 < length v.blocks
+  first_in : v.len / BLOCK < length v.blocks
   first_in = in_block v.len v.room (length v.blocks) lt are.sized
 
-  row_here : row ≡ get_or v.blocks (v.len / 256) no_block
+  row_here : row ≡ get_or v.blocks (v.len / BLOCK) no_block
   row_here = row_is v are v.len lt row found
 
-  wide : v.len % 256 < length row.slots
+  wide : v.len % BLOCK < length row.slots
   wide = row_long v are v.len lt row found
 
   stay : (k : ℕ) → address u.blocks k ≡ address v.blocks k
@@ -204,7 +205,7 @@ module _ (v : Slots) (are : AreNodes v) (lt : v.len < v.room) (row new : NodeBlo
   pub push_keeps : AreNodes u
   push_keeps = record {
     long = wrote_long v.blocks v.len row new n first_in row_here wide same_at stored are.long;
-    sized = are.sized ∙ ap (λ k. 256 * k) (sym (length-set v.blocks (v.len / 256) new));
+    sized = are.sized ∙ ap (λ k. BLOCK * k) (sym (length-set v.blocks (v.len / BLOCK) new));
     within = omega arith;
     filled = λ k lt'. elim (cases_eq k v.len) [
       | inl e ↦ record { node = n; is = ap (node_at u.blocks) e ∙ here; tied = record { next = to_itself cell.next next_is; prev = to_itself cell.prev prev_is } }
@@ -220,12 +221,12 @@ module _ (v : Slots) (are : AreNodes v) (lt : v.len < v.room) (row new : NodeBlo
   push_edits = record { room = refl; here = ap cell_of here; elsewhere = λ k ne. ap cell_of (elsewhere k ne) }
 
 -- a block of empty places is added
-module _ (v : Slots) (are : AreNodes v) (r : NodeBlock) (count : ℕ) (is : count ≡ 256) (empty : r.slots ≡ replicate count None) where
+module _ (v : Slots) (are : AreNodes v) (r : NodeBlock) (count : ℕ) (is : count ≡ BLOCK) (empty : r.slots ≡ replicate count None) where
   abbrev more : List NodeBlock
   more = v.blocks ++ r ∷ []
 
   abbrev g : Slots
-  g = record { blocks = more; len = v.len; room = v.room + 256 }
+  g = record { blocks = more; len = v.len; room = v.room + BLOCK }
 
   none_past : (j i : ℕ) → get_or (get_or (r ∷ []) j no_block).slots i None ≡ None
   none_past zero i = ap (λ (cs : List (Option Node)). get_or cs i None) empty ∙ same_of_replicate None count i
@@ -236,22 +237,22 @@ module _ (v : Slots) (are : AreNodes v) (r : NodeBlock) (count : ℕ) (is : coun
 
   pub grow_same : (k : ℕ) → node_at more k ≡ node_at v.blocks k
   unfolding node_at
-  grow_same k = elim (cases_lt (k / 256) (length v.blocks)) [
-    | inl lt ↦ ap (λ (x : NodeBlock). get_or x.slots (k % 256) None) (kept (k / 256) lt)
+  grow_same k = elim (cases_lt (k / BLOCK) (length v.blocks)) [
+    | inl lt ↦ ap (λ (x : NodeBlock). get_or x.slots (k % BLOCK) None) (kept (k / BLOCK) lt)
     | inr le ↦
-        ap (λ (x : NodeBlock). get_or x.slots (k % 256) None) (get_or-append_right v.blocks (r ∷ []) (length v.blocks) (k / 256) no_block refl le)
-        ∙ none_past (k / 256 - length v.blocks) (k % 256)
-        ∙ sym (ap (λ (x : NodeBlock). get_or x.slots (k % 256) None) (get_or_past v.blocks (k / 256) no_block le))
+        ap (λ (x : NodeBlock). get_or x.slots (k % BLOCK) None) (get_or-append_right v.blocks (r ∷ []) (length v.blocks) (k / BLOCK) no_block refl le)
+        ∙ none_past (k / BLOCK - length v.blocks) (k % BLOCK)
+        ∙ sym (ap (λ (x : NodeBlock). get_or x.slots (k % BLOCK) None) (get_or_past v.blocks (k / BLOCK) no_block le))
   ]
 
   grow_stays : (k : ℕ) → k < v.len → address more k ≡ address v.blocks k
   unfolding address
-  grow_stays k lt = ap (λ x. place_of x (k % 256)) (kept (k / 256) (in_block k v.room (length v.blocks) (omega (arith, are.within)) are.sized))
+  grow_stays k lt = ap (λ x. place_of x (k % BLOCK)) (kept (k / BLOCK) (in_block k v.room (length v.blocks) (omega (arith, are.within)) are.sized))
 
   one_more : length more ≡ length v.blocks + 1
   one_more = grind (arith, length-append)
 
-  grow_long : (i : ℕ) → i < length more → length (get_or more i no_block).slots ≡ 256
+  grow_long : (i : ℕ) → i < length more → length (get_or more i no_block).slots ≡ BLOCK
   grow_long i lt = elim (cases_lt i (length v.blocks)) [
     | inl inside ↦ ap (λ (x : NodeBlock). length x.slots) (kept i inside) ∙ are.long i inside
     | inr le ↦

@@ -1,6 +1,7 @@
 -- Private: nodes by their slots, and how the raw links between them lie.
 use Rattle.std.specs.Prelude.{◌≡◌, ◌≢◌, ℕ, ◌*◌, ◌/◌, ◌%◌, ◌<◌, ◌≤◌, get_or, length, List, [], Option, Some, None}
 use denote.RawPtr.{Ptr, null_ptr}
+use Rattle.item_ring.specs.declared.block.TheConstants.{BLOCK}
 use Rattle.item_ring.specs.declared.block.Cell.{Cell}
 use Rattle.item_ring.specs.declared.block.Node.{Node}
 use Rattle.item_ring.specs.declared.block.State.{State}
@@ -19,10 +20,10 @@ no_block = record { at = null_ptr; slots = [] }
 
 -- the node in the slot, and where the slot lies
 unfoldable pub node_at : List NodeBlock → ℕ → Option Node
-node_at blocks s = get_or (get_or blocks (s / 256) no_block).slots (s % 256) None
+node_at blocks s = get_or (get_or blocks (s / BLOCK) no_block).slots (s % BLOCK) None
 
 unfoldable pub address : List NodeBlock → ℕ → Ptr
-address blocks s = place_of (get_or blocks (s / 256) no_block) (s % 256)
+address blocks s = place_of (get_or blocks (s / BLOCK) no_block) (s % BLOCK)
 
 abbrev pub blank : Cell
 blank = record { next = 0; prev = 0; ring = 0; value = 0; state = Free }
@@ -109,8 +110,8 @@ pub record Unspliced (v w : Slots) (m : ℕ) : Type 0 where
   pub value_same : (k : ℕ) → value_of w k ≡ value_of v k
 
 pub record AreNodes (v : Slots) : Type 0 where
-  pub long : (i : ℕ) → i < length v.blocks → length (get_or v.blocks i no_block).slots ≡ 256
-  pub sized : v.room ≡ 256 * length v.blocks
+  pub long : (i : ℕ) → i < length v.blocks → length (get_or v.blocks i no_block).slots ≡ BLOCK
+  pub sized : v.room ≡ BLOCK * length v.blocks
   pub within : v.len ≤ v.room
   pub filled : (s : ℕ) → s < v.len → HasNode v s
   pub beyond : (s : ℕ) → v.len ≤ s → node_at v.blocks s ≡ None

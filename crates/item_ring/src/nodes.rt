@@ -54,15 +54,15 @@ impl Nodes {
 
     /// Makes room for one more block of slots.
     pub(crate) fn grow(&mut self, alloc: Global) -> Result<(), AllocError>
-        requires { self.old.room + 256 < 2 ^ 32 }
-        ensures room { IfOk result (λ _. self.new.room ≡ self.old.room + 256) }
+        requires { self.old.room + BLOCK < 2 ^ 32 }
+        ensures room { IfOk result (λ _. self.new.room ≡ self.old.room + BLOCK) }
         ensures refused { IfErr result (λ _. self.new.room ≡ self.old.room) }
         ensures len { self.new.len ≡ self.old.len }
         ensures cells { (k : ℕ) → cell_at self.new k ≡ cell_at self.old k }
     {
         let block = Block::new(alloc)?;
         self.blocks.push(block)?;
-        self.room += 256;
+        self.room += BLOCK as u32;
         Ok(())
     }
 

@@ -7,7 +7,7 @@ ghost use Rattle.item_ring.specs.AreRings.{Claimed, IsFree};
 ghost use Rattle.item_ring.specs.Nodes.{cell_at};
 ghost use Rattle.item_ring.specs.Turns.{with_behind};
 
-use crate::block::State;
+use crate::block::{BLOCK, State};
 use crate::nodes::Nodes;
 use crate::seen::{RingView, show};
 use leda_base::Seen;
@@ -501,7 +501,7 @@ fn claim(
 
 /// Grows until there are so many slots.
 fn grow_to(nodes: &mut Nodes, alloc: Global, slots: u32) -> Result<(), AllocError>
-    requires { slots ≤ 2 ^ 26 - 256 }
+    requires { slots ≤ 2 ^ 26 - BLOCK }
     ensures room { IfOk result (λ _. slots ≤ nodes.new.room) }
     ensures more { nodes.old.room ≤ nodes.new.room }
     ensures small { nodes.old.room ≤ 2 ^ 26 → nodes.new.room ≤ 2 ^ 26 }
@@ -516,7 +516,7 @@ fn grow_to(nodes: &mut Nodes, alloc: Global, slots: u32) -> Result<(), AllocErro
 
 /// What is left of the spare number when one is used. Where none is spare it makes room.
 fn use_spare(nodes: &mut Nodes, alloc: Global, spare: u32, slots: u32) -> Result<u32, AllocError>
-    requires { slots ≤ 2 ^ 26 - 256 }
+    requires { slots ≤ 2 ^ 26 - BLOCK }
     ensures left { IfOk result (λ left. left ≡ spare - 1) }
     ensures room { IfOk result (λ _. spare ≡ 0 → slots ≤ nodes.new.room) }
     ensures sure { 0 < spare → IsOk result }

@@ -1,5 +1,6 @@
 -- One row changes at one place.
 use Rattle.std.proofs.Common.{sym, subst, set, ◌∙◌, ◌/◌}
+use Rattle.item_ring.specs.declared.block.TheConstants.{BLOCK}
 use Rattle.item_ring.specs.AreNodes.{slots_of}
 use Rattle.item_ring.specs.Nodes.{LeadsTo, IsTied, Writes}
 use Rattle.item_ring.proofs.Writes.{place_is, row_long, write_writes, write_keeps, below_room}
@@ -29,4 +30,4 @@ returns c =
     let v = slots_of c.self.inside in
     let leads = subst (λ x. LeadsTo x c.args.link c.args.slot) (sym c.self.view_is) c.requires.leads in
     let writes = write_writes v c.self.invariant c.args.slot leads.within c.index_mut.result.now c.set.new.self c.args.node c.index_mut.ensures.value c.set.ensures.at c.set.ensures.slots in
-    subst (λ x. Writes x (record v { blocks = set v.blocks (c.args.slot / 256) c.set.new.self }) c.args.slot c.args.node) c.self.view_is writes
+    subst (λ x. Writes x (record v { blocks = set v.blocks (c.args.slot / BLOCK) c.set.new.self }) c.args.slot c.args.node) c.self.view_is writes
