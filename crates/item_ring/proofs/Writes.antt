@@ -9,7 +9,7 @@ use Rattle.item_ring.specs.declared.block.Cell.{Cell}
 use Rattle.item_ring.specs.declared.block.Node.{Node}
 use Rattle.item_ring.specs.declared.cells.Link.{Link}
 use Rattle.item_ring.specs.Memory.{IsFilled}
-use Rattle.item_ring.specs.NodeBlock.{NodeBlock, place_of}
+use Rattle.item_ring.specs.NodeBlock.{NodeBlock, address_of}
 use Rattle.item_ring.specs.Nodes.{Slots, no_block, node_at, address, cell_of, cell_at, LeadsTo, IsTied, Writes, Edits, AreNodes}
 
 same_of_replicate : {X : Type 0} (d : X) (n i : ℕ) → get_or (replicate n d) i d ≡ d
@@ -41,9 +41,9 @@ module _ (v : Slots) (are : AreNodes v) (s : ℕ) (lt : s < v.room) (row : NodeB
       let long = are.long (s / BLOCK) (in_block s v.room (length v.blocks) lt are.sized) in
       subst P (sym row_is) (subst (λ n. s % BLOCK < n) (sym long) (place_below s))
 
-  pub place_is : place_of row (s % BLOCK) ≡ address v.blocks s
+  pub address_is : address_of row (s % BLOCK) ≡ address v.blocks s
   unfolding address
-  place_is = ap (λ r. place_of r (s % BLOCK)) row_is
+  address_is = ap (λ r. address_of r (s % BLOCK)) row_is
 
   pub slot_is : get_or row.slots (s % BLOCK) None ≡ node_at v.blocks s
   unfolding node_at
@@ -93,15 +93,15 @@ module _ (blocks : List NodeBlock) (s : ℕ) (row new : NodeBlock) (n : Node) (l
   ]
 
   pub wrote_stays : (k : ℕ) → address after k ≡ address blocks k
-  unfolding address place_of
+  unfolding address address_of
   wrote_stays k = elim (cases_eq (k / BLOCK) (s / BLOCK)) [
     | inl e ↦
-        ap (λ j. place_of (get_or after j no_block) (k % BLOCK)) e
-        ∙ ap (λ (r : NodeBlock). place_of r (k % BLOCK)) written
-        ∙ ap (λ p. place_of (record { at = p; slots = [] }) (k % BLOCK)) same_at
-        ∙ ap (λ (r : NodeBlock). place_of r (k % BLOCK)) row_is
-        ∙ ap (λ j. place_of (get_or blocks j no_block) (k % BLOCK)) (sym e)
-    | inr ne ↦ ap (λ (r : NodeBlock). place_of r (k % BLOCK)) (others (k / BLOCK) ne)
+        ap (λ j. address_of (get_or after j no_block) (k % BLOCK)) e
+        ∙ ap (λ (r : NodeBlock). address_of r (k % BLOCK)) written
+        ∙ ap (λ p. address_of (record { at = p; slots = [] }) (k % BLOCK)) same_at
+        ∙ ap (λ (r : NodeBlock). address_of r (k % BLOCK)) row_is
+        ∙ ap (λ j. address_of (get_or blocks j no_block) (k % BLOCK)) (sym e)
+    | inr ne ↦ ap (λ (r : NodeBlock). address_of r (k % BLOCK)) (others (k / BLOCK) ne)
   ]
 
   pub wrote_long : ((i : ℕ) → i < length blocks → length (get_or blocks i no_block).slots ≡ BLOCK) → (i : ℕ) → i < length after → length (get_or after i no_block).slots ≡ BLOCK
@@ -247,7 +247,7 @@ module _ (v : Slots) (are : AreNodes v) (r : NodeBlock) (count : ℕ) (is : coun
 
   grow_stays : (k : ℕ) → k < v.len → address more k ≡ address v.blocks k
   unfolding address
-  grow_stays k lt = ap (λ x. place_of x (k % BLOCK)) (kept (k / BLOCK) (in_block k v.room (length v.blocks) (omega (arith, are.within)) are.sized))
+  grow_stays k lt = ap (λ x. address_of x (k % BLOCK)) (kept (k / BLOCK) (in_block k v.room (length v.blocks) (omega (arith, are.within)) are.sized))
 
   one_more : length more ≡ length v.blocks + 1
   one_more = grind (arith, length-append)

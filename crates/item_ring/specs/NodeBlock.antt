@@ -11,5 +11,5 @@ pub record NodeBlock : Type 0 where
   pub slots : List (Option Node)
 
 -- the address of the place at the index
-unfoldable pub place_of : NodeBlock → ℕ → Ptr
-place_of row index = row.at +ₚ (index * type_size the_row)
+unfoldable pub address_of : NodeBlock → ℕ → Ptr
+address_of row index = row.at +ₚ (index * type_size the_row)

@@ -7,7 +7,7 @@ use Rattle.item_ring.specs.declared.block.Node.{Node}
 use Rattle.item_ring.specs.declared.block.State.{State}
 use Rattle.item_ring.specs.declared.block.State.TheVariants.{Free, Loose, Linked}
 use Rattle.item_ring.specs.declared.cells.Link.{Link}
-use Rattle.item_ring.specs.NodeBlock.{NodeBlock, place_of}
+use Rattle.item_ring.specs.NodeBlock.{NodeBlock, address_of}
 
 -- the blocks, how many slots are in use, and how many there are
 pub record Slots : Type 0 where
@@ -23,7 +23,7 @@ unfoldable pub node_at : List NodeBlock → ℕ → Option Node
 node_at blocks s = get_or (get_or blocks (s / BLOCK) no_block).slots (s % BLOCK) None
 
 unfoldable pub address : List NodeBlock → ℕ → Ptr
-address blocks s = place_of (get_or blocks (s / BLOCK) no_block) (s % BLOCK)
+address blocks s = address_of (get_or blocks (s / BLOCK) no_block) (s % BLOCK)
 
 abbrev pub blank : Cell
 blank = record { next = 0; prev = 0; ring = 0; value = 0; state = Free }

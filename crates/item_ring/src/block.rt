@@ -2,7 +2,7 @@
 ghost use Rattle.std.specs.Prelude.{◌≡◌, ℕ, ◌<◌, ◌*◌, Option, Some, None, length, get_or, slice_set, IfOk, replicate};
 ghost use Rattle.std.specs.Vec.Ownership.{FitsInBlock};
 ghost use Rattle.item_ring.specs.Memory.{IsFilled};
-ghost use Rattle.item_ring.specs.NodeBlock.{place_of};
+ghost use Rattle.item_ring.specs.NodeBlock.{address_of};
 
 use crate::cells::{Cells, Deed, Link, allocate, deallocate};
 use std::alloc::{AllocError, Global};
@@ -73,29 +73,29 @@ impl Block {
         })
     }
 
-    #[tactic(auto, unfolding(crate::specs::NodeBlock::place_of))]
+    #[tactic(auto, unfolding(crate::specs::NodeBlock::address_of))]
     /// The link to the place at the index.
     pub(crate) fn link(&self, index: usize) -> Link
         requires { index < length self.now.slots }
-        ensures { result.at ≡ place_of self.now index }
+        ensures { result.at ≡ address_of self.now index }
     {
         self.cells.link(self.start, index)
     }
 
-    #[tactic(auto, unfolding(crate::specs::NodeBlock::place_of))]
+    #[tactic(auto, unfolding(crate::specs::NodeBlock::address_of))]
     /// Follows a link to a node.
     pub(crate) fn get(&self, link: Link, index: usize) -> Node
-        requires leads { link.at ≡ place_of self.now index }
+        requires leads { link.at ≡ address_of self.now index }
         requires filled { IsFilled self.now.slots index }
         ensures { get_or self.now.slots index None ≡ Some result }
     {
         *self.cells.get(link, index)
     }
 
-    #[tactic(auto, unfolding(crate::specs::NodeBlock::place_of))]
+    #[tactic(auto, unfolding(crate::specs::NodeBlock::address_of))]
     /// Puts a node where the link leads.
     pub(crate) fn set(&mut self, link: Link, index: usize, node: Node)
-        requires leads { link.at ≡ place_of self.old index }
+        requires leads { link.at ≡ address_of self.old index }
         requires within { index < length self.old.slots }
         ensures at { self.new.at ≡ self.old.at }
         ensures slots { self.new.slots ≡ slice_set self.old.slots index (Some node) }

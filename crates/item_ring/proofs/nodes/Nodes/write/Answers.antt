@@ -3,14 +3,14 @@ use Rattle.std.proofs.Common.{sym, subst, set, ◌∙◌, ◌/◌}
 use Rattle.item_ring.specs.declared.block.TheConstants.{BLOCK}
 use Rattle.item_ring.specs.AreNodes.{slots_of}
 use Rattle.item_ring.specs.Nodes.{LeadsTo, IsTied, Writes}
-use Rattle.item_ring.proofs.Writes.{place_is, row_long, write_writes, write_keeps, below_room}
+use Rattle.item_ring.proofs.Writes.{address_is, row_long, write_writes, write_keeps, below_room}
 use Rattle.item_ring.proofs.nodes.Nodes.write.Goals as goal
 
 pub set-requires-clause-leads : goal.set-requires-clause-leads
 set-requires-clause-leads c =
     let v = slots_of c.self.inside in
     let leads = subst (λ x. LeadsTo x c.args.link c.args.slot) (sym c.self.view_is) c.requires.leads in
-    leads.there ∙ sym (place_is v c.self.invariant c.args.slot (below_room v c.self.invariant c.args.slot leads.within) c.index_mut.result.now c.index_mut.ensures.value)
+    leads.there ∙ sym (address_is v c.self.invariant c.args.slot (below_room v c.self.invariant c.args.slot leads.within) c.index_mut.result.now c.index_mut.ensures.value)
 
 pub set-requires-clause-within : goal.set-requires-clause-within
 set-requires-clause-within c =
