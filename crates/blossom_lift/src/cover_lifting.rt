@@ -1,5 +1,6 @@
 //! A cover of a contracted net brought back to the larger one.
 ghost use Rattle.std.specs.Prelude.{◌≡◌, ◌≢◌, ◌<◌, ◌≤◌, length, map, slice_index, All, IfOk};
+ghost use Rattle.graph_defs.specs.declared.net.TheConstants.{NODE_LIMIT};
 ghost use Rattle.graph_defs.specs.Matching.{IsOddSetCover};
 ghost use Rattle.graph_defs.specs.Net.{IsValid};
 ghost use Rattle.blossom_lift.specs.Contraction.{IsLevel, IsLiftedCover};
@@ -39,7 +40,7 @@ pub fn lift_cover(
 
 // The hub's label, or a new one where that is 0.
 fn label_for(alloc: Global, cover: &[u32], hub: u32) -> Result<u32, NoMemory>
-    requires few { length cover.now ≤ 100000 }
+    requires few { length cover.now ≤ NODE_LIMIT }
     requires hub { hub < length cover.now }
     requires apart { slice_index cover.now hub ≢ 1 }
     ensures { IfOk result (λ label. IsFitLabel cover.now hub label) }

@@ -1,5 +1,6 @@
 //! Marks at numbers, and the first place without one.
 ghost use Rattle.std.specs.Prelude.{◌≡◌, ℕ, ◌<◌, ◌≤◌, true, false, length, slice_set, IfOk};
+ghost use Rattle.graph_defs.specs.declared.net.TheConstants.{NODE_LIMIT};
 ghost use Rattle.graph_defs.specs.Count.{times};
 ghost use Rattle.blossom_lift.specs.Passes.{AreMarks, marked};
 
@@ -30,7 +31,7 @@ fn mark(marks: &mut Vec<bool>, number: u32)
 
 /// The least label from 2 on that no node has. In time and memory linear in the nodes.
 pub fn unused_label(alloc: Global, labels: &[u32]) -> Result<u32, NoMemory>
-    requires { length labels.now ≤ 100000 }
+    requires { length labels.now ≤ NODE_LIMIT }
     ensures later { IfOk result (λ label. 2 ≤ label) }
     ensures unused { IfOk result (λ label. times label labels.now ≡ 0) }
 {

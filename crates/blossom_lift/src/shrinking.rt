@@ -1,6 +1,7 @@
 //! A blossom contracted into one node.
 ghost use Rattle.std.specs.Prelude.{◌≡◌, ℕ, ◌<◌, ◌≤◌, Bool, not, cond, [], length, map, slice_index, All, IfOk};
 ghost use Rattle.std.specs.List.{filter, range_with_len};
+ghost use Rattle.graph_defs.specs.declared.net.TheConstants.{NODE_LIMIT};
 ghost use Rattle.graph_defs.specs.Matching.{IsMatching};
 ghost use Rattle.graph_defs.specs.Net.{EndsBelow, IsValid};
 ghost use Rattle.match_core.specs.Path.{HasStem};
@@ -57,7 +58,7 @@ fn outside(is_marked: bool) -> u32
 
 // How many places aren't marked.
 fn count_unmarked(marks: &[bool]) -> u32
-    requires { length marks.now ≤ 100000 }
+    requires { length marks.now ≤ NODE_LIMIT }
     ensures small { result ≤ length marks.now }
     ensures value { result ≡ rank (marked marks.now) (length marks.now) }
 {
@@ -70,7 +71,7 @@ fn count_unmarked(marks: &[bool]) -> u32
 
 // The number in the smaller net of each node.
 fn images(alloc: Global, marks: &[bool], hub: u32) -> Result<Row<u32>, NoMemory>
-    requires few { length marks.now ≤ 100000 }
+    requires few { length marks.now ≤ NODE_LIMIT }
     requires hub { hub ≡ rank (marked marks.now) (length marks.now) }
     ensures { IfOk result (λ images. images ≡ map (image_of (marked marks.now) (length marks.now))
         (range_with_len 0 (length marks.now))) }

@@ -1,6 +1,7 @@
 -- What is kept of an unfinished line that grows.
-use Rattle.std.proofs.Common.{◌≡◌, ℕ, zero, suc, ◌-◌, min, List, [], ◌∷◌, ◌++◌, ap, sym, ◌∙◌, take, length, arith}
+use Rattle.std.proofs.Common.{◌≡◌, ℕ, zero, suc, ◌+◌, ◌-◌, min, List, [], ◌∷◌, ◌++◌, ap, sym, ◌∙◌, take, length, arith}
 use Rattle.std.proofs.lemmas.List.{take_min}
+use Rattle.script_text.specs.declared.line.TheConstants.{LINE_LIMIT}
 use Rattle.script_text.specs.Line.{kept_most, kept_of}
 use Rattle.script_text.proofs.Kept.{kept_most-is}
 
@@ -21,7 +22,7 @@ take_both (suc m) (b ∷ line) bytes =
 
 -- the bytes that came are gathered
 pub gathered : (line bytes kept new : List ℕ) (count : ℕ) → kept ≡ kept_of line
-    → count ≡ min (length bytes) (65537 - length kept) → new ≡ kept ++ take count bytes
+    → count ≡ min (length bytes) (LINE_LIMIT + 1 - length kept) → new ≡ kept ++ take count bytes
     → new ≡ kept_of (line ++ bytes)
 gathered line bytes kept new count k n e =
     let most : count ≡ min (length bytes) (kept_most - length (kept_of line)) = n

@@ -1,16 +1,14 @@
 -- Lines that are answered by want of memory, or by what refuses them.
-use Rattle.std.proofs.Common.{◌≡◌, ◌||◌, ℕ, Bool, true, false, List, [], refl, sym, ◌∙◌, ap, subst, inl, inr}
+use Rattle.std.proofs.Common.{◌≡◌, ℕ, Bool, true, false, List, refl, sym, ◌∙◌, ap, subst, inl, inr}
 use Rattle.std.specs.Prelude.{Option, None, Some, Result, Ok, Err}
-use Rattle.std.specs.Option.{option_map_or}
 use Rattle.std.specs.Bool.{MatchBool, OnFalse}
 use Rattle.leda_edge.specs.Stored.{Stored}
 use Rattle.script_text.specs.declared.line.Line.TheVariants.{Command}
 use Rattle.script_text.specs.declared.line.LineRefusal.{LineRefusal}
 use Rattle.script_text.specs.declared.line.LineRefusal.TheVariants as faults
-use Rattle.script_text.specs.declared.word.Word.{Word}
 use Rattle.script_text.specs.Said.{Said}
-use Rattle.script_text.specs.Table.{Entry, entry_with, keeps_any, may_lack, forms_of, may_lack_memory}
 use Rattle.script_text.specs.Line.{line_of, Reads}
+use Rattle.script_text.proofs.Entries.{keeps-may_lack}
 use Rattle.reply_text.specs.declared.reply.Reply.{Reply}
 use Rattle.reply_text.specs.declared.reply.Reply.TheVariants.{Refused}
 use Rattle.reply_text.specs.declared.refusal.Refusal.{Refusal}
@@ -20,16 +18,6 @@ use Rattle.console_state.specs.State.{State}
 use Rattle.console_state.specs.Step.{Step, IsQuietStep}
 use Rattle.console_run.specs.Session.{Meets, refusal_of}
 use Rattle.console_run.specs.Progress.{RanCommand, RanLine}
-
--- a row whose arguments keep bytes
-of_row : (row : Option Entry) → keeps_any (option_map_or (λ entry. entry.forms) row []) ≡ true
-    → option_map_or may_lack row false ≡ true
-of_row None h = h
-of_row (Some entry) h = rw h refl
-
--- a command whose arguments keep bytes may lack memory
-keeps-may_lack : (word : Word) → keeps_any (forms_of word) ≡ true → may_lack_memory word ≡ true
-keeps-may_lack word h = of_row (entry_with word) h
 
 -- want of memory in the place of a long reply
 pub lacking : (s : State) (f : Stored) (said : Said) (reply : Reply) (s' : State) (f' : Stored)

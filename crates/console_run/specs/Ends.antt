@@ -6,6 +6,7 @@ use Rattle.console_run.specs.declared.top.Status.{Status}
 use Rattle.console_run.specs.declared.top.Status.TheVariants.{Done, Words, ReadFault, WriteFault, NoMemory, TooLong}
 use Rattle.console_run.specs.Lines.{lines_of}
 use Rattle.console_run.specs.Answers.{Known, Answered, BrokeOff}
+use Rattle.console_run.specs.declared.top.TheConstants.{SCRIPT_LIMIT}
 
 -- the outside before a call and after it: the script's bytes that are left, the files, and the
 -- bytes written
@@ -21,7 +22,7 @@ outside left files held = record { left = left; files = files; held = held }
 pub record EndsDone (old new : Outside) : Type 0 where
   pub taken : List ℕ
   pub consumed : Consumes old.left new.left taken
-  pub within : length taken ≤ 1073741824
+  pub within : length taken ≤ SCRIPT_LIMIT
   pub at_end : IsAtEnd new.left
   pub answered : Answered old.files old.held (lines_of taken) new.files new.held
 
@@ -29,7 +30,7 @@ pub record EndsDone (old new : Outside) : Type 0 where
 pub record EndsReadFault (old new : Outside) : Type 0 where
   pub taken : List ℕ
   pub consumed : Consumes old.left new.left taken
-  pub within : length taken ≤ 1073741824
+  pub within : length taken ≤ SCRIPT_LIMIT
   pub lines : List (List ℕ)
   pub unfinished : List ℕ
   pub split : lines_of taken ≡ lines ++ unfinished ∷ []
@@ -39,7 +40,7 @@ pub record EndsReadFault (old new : Outside) : Type 0 where
 pub record EndsWriteFault (old new : Outside) : Type 0 where
   pub taken : List ℕ
   pub consumed : Consumes old.left new.left taken
-  pub within : length taken ≤ 1073741824
+  pub within : length taken ≤ SCRIPT_LIMIT
   pub lines : List (List ℕ)
   pub line : List ℕ
   pub later : List (List ℕ)
@@ -52,7 +53,7 @@ pub record EndsTooLong (old new : Outside) : Type 0 where
   pub taken : List ℕ
   pub more : List ℕ
   pub consumed : Consumes old.left new.left (taken ++ more)
-  pub full : length taken ≡ 1073741824
+  pub full : length taken ≡ SCRIPT_LIMIT
   pub beyond : 0 < length more
   pub lines : List (List ℕ)
   pub unfinished : List ℕ

@@ -14,6 +14,7 @@ use Rattle.console_run.specs.declared.top.Status.TheVariants.{Done, Words, ReadF
 use Rattle.console_run.specs.Lines.{lines_of, IsPlain}
 use Rattle.console_run.specs.Session.{LineStep, Session, answer_text, texts}
 use Rattle.console_run.specs.Answers.{Known, BrokeOff}
+use Rattle.console_run.specs.declared.top.TheConstants.{SCRIPT_LIMIT}
 
 -- behind the place `at` of a piece, the first line end stands at the place `end`
 pub record EndsLine (piece : List ℕ) (at end : ℕ) : Type 0 where
@@ -79,7 +80,7 @@ pub record ReadWhole (left : Known) (files : Stored) (held : Known) (now_left : 
     (now_files : Stored) (now_held : Known)
     (state : State) (kept : List ℕ) : Type 0 where
   pub count : ℕ
-  pub within : count ≤ 1073741824
+  pub within : count ≤ SCRIPT_LIMIT
   pub pumped : Pumped left files held now_left now_files now_held count state kept
   pub at_end : IsAtEnd now_left
 

@@ -36,9 +36,9 @@ pub(crate) struct Console {
     session: Session,
     line: Vec<u8>,
     reply: Vec<u8>,
-    ghost line_within: { vec_len line ≤ 65537 },
-    ghost line_room: { 65537 ≤ vec_capacity line },
-    ghost reply_room: { 256 ≤ vec_capacity reply },
+    ghost line_within: { vec_len line ≤ KEPT_LIMIT },
+    ghost line_room: { KEPT_LIMIT ≤ vec_capacity line },
+    ghost reply_room: { REPLY_ROOM ≤ vec_capacity reply },
 }
 
 impl Console {
@@ -190,7 +190,7 @@ impl Console {
 /// Whether it is the text of the reply.
 fn put_text(to: &mut Vec<u8>, reply: &Reply) -> bool
     requires empty { to.old.items ≡ [] }
-    requires room { 256 ≤ vec_capacity to.old }
+    requires room { REPLY_ROOM ≤ vec_capacity to.old }
     requires named { IsNamed reply.now }
     ensures text { MatchBool result (to.new.items ≡ reply_text reply.now)
         (to.new.items ≡ reply_text (Refused Memory)) }

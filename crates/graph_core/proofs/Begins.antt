@@ -13,10 +13,10 @@ use Rattle.graph_state.specs.Names as names
 use Rattle.graph_state.specs.Formed.{IsFormed, IsKeptType}
 use Rattle.graph_state.specs.Edits.{cleared}
 use Rattle.graph_state.proofs.Cleared.{lists_empty, nothing_live, formed_cleared}
-use Rattle.graph_lists.specs.Named.{Lists, head_at, place_at, list_at, nothing_named}
+use Rattle.graph_lists.specs.Named.{Lists, head_at, hook_at, list_at, nothing_named}
 use Rattle.graph_core.specs.declared.cell.NodeCell.{NodeCell}
 use Rattle.graph_core.specs.declared.cell.EdgeCell.{EdgeCell}
-use Rattle.graph_core.specs.Kept.{NodeCells, EdgeCells, heads_of, place_of, end_place, IsNode, IsEdge, IsKept}
+use Rattle.graph_core.specs.Kept.{NodeCells, EdgeCells, heads_of, hook_of, end_hook, IsNode, IsEdge, IsKept}
 
 module _ (directed : Bool) (node_type edge_type : List ℕ) (made_nodes made_edges : ℕ) where
   abbrev none : GraphState
@@ -38,10 +38,10 @@ module _ (directed : Bool) (node_type edge_type : List ℕ) (made_nodes made_edg
   no_heads (Out v) = sym (ap (option_map (λ (c : NodeCell). c.outs)) (get-empty nat_cmp v))
   no_heads (In v) = sym (ap (option_map (λ (c : NodeCell). c.ins)) (get-empty nat_cmp v))
 
-  no_places : (x : Element) → None ≡ place_of map.empty map.empty x
-  no_places (Node v) = sym (ap (option_map (λ (c : NodeCell). c.place)) (get-empty nat_cmp v))
-  no_places (Edge e) = sym (ap (option_map (λ (c : EdgeCell). c.place)) (get-empty nat_cmp e))
-  no_places (End d) = sym (ap (option_map (end_place d.back)) (get-empty nat_cmp d.edge))
+  no_hooks : (x : Element) → None ≡ hook_of map.empty map.empty x
+  no_hooks (Node v) = sym (ap (option_map (λ (c : NodeCell). c.hook)) (get-empty nat_cmp v))
+  no_hooks (Edge e) = sym (ap (option_map (λ (c : EdgeCell). c.hook)) (get-empty nat_cmp e))
+  no_hooks (End d) = sym (ap (option_map (end_hook d.back)) (get-empty nat_cmp d.edge))
 
   pub kept_none : (t : Lists) (p : NodeCells) (q : EdgeCells) → t.named ≡ nothing_named → (t.heads ≡ 0) × (t.members ≡ 0) → p ≡ map.empty → q ≡ map.empty → (made_nodes ≤ 16777215) × (made_edges ≤ 16777215) → IsKeptType node_type × IsKeptType edge_type → IsKept none t None p q
   unfolding new_graph
@@ -50,7 +50,7 @@ module _ (directed : Bool) (node_type edge_type : List ℕ) (made_nodes made_edg
       let qlen : map.len q ≡ 0 = ap map.len qe ∙ len-empty nat_cmp EdgeCell in
       record {
         heads = λ l. ap (λ n. head_at n l) named ∙ no_heads l ∙ ap (λ p. heads_of None p l) (sym pe);
-        places = λ x. ap (λ n. place_at n x) named ∙ no_places x ∙ (λ i. place_of (sym pe i) (sym qe i) x);
+        hooks = λ x. ap (λ n. hook_at n x) named ∙ no_hooks x ∙ (λ i. hook_of (sym pe i) (sym qe i) x);
         lists = λ l. ap (λ n. list_at n l) named ∙ sym (no_lists l);
         shown = λ x i. absurd (none_live x i);
         loose = ap (λ n. n.loose) named;

@@ -19,16 +19,16 @@ use Rattle.graph_state.proofs.Has.{has_left}
 use Rattle.graph_state.proofs.Same.{element_tells, has_without}
 use Rattle.graph_state.proofs.Lists.{one}
 use Rattle.graph_state.proofs.Beside.{adds_beside, lists_beside}
-use Rattle.graph_lists.specs.declared.token.Place.{Place}
-use Rattle.graph_lists.specs.Named.{Lists, Named, head_at, place_at, list_at, shows_at, placed, pushed, put_beside}
+use Rattle.graph_lists.specs.declared.token.Hook.{Hook}
+use Rattle.graph_lists.specs.Named.{Lists, Named, head_at, hook_at, list_at, shows_at, hooked, pushed, put_beside}
 use Rattle.graph_lists.proofs.Numbers.{look_each}
 use Rattle.graph_core.specs.declared.cell.Heads.{Heads}
 use Rattle.graph_core.specs.declared.cell.EdgeCell.{EdgeCell}
 use Rattle.graph_core.specs.Kept.{NodeCells, IsKept}
-use Rattle.graph_core.specs.Steps.{with_places}
+use Rattle.graph_core.specs.Steps.{with_hooks}
 use Rattle.graph_core.specs.Beside.{CanStandBeside, CanPutFront, CanEnterBeside, EntersBeside}
-use Rattle.graph_core.proofs.Kept.{edge_cell, front_place, stands}
-use Rattle.graph_core.proofs.Names.{pushed_list, shows_placed, shows_else, place_new, place_else}
+use Rattle.graph_core.proofs.Kept.{edge_cell, front_hook, stands}
+use Rattle.graph_core.proofs.Names.{pushed_list, shows_hooked, shows_else, hook_new, hook_else}
 use Rattle.graph_core.proofs.Edges.{all_taken, kept_added}
 
 -- the lists, where an element goes next to another one
@@ -51,7 +51,7 @@ is_end (Edge e) = false
 is_end (End d) = true
 
 -- the front dart of the new edge n can go next to that of e
-module _ (t : Lists) (q : Contents EdgeCell) (e n : ℕ) (old : e < n) (can : CanStandBeside t q e) (edge first second : Place) (u : Lists) (named : u.named ≡ pushed Edges (Edge n) (with_places n edge first second t.named)) where
+module _ (t : Lists) (q : Contents EdgeCell) (e n : ℕ) (old : e < n) (can : CanStandBeside t q e) (edge first second : Hook) (u : Lists) (named : u.named ≡ pushed Edges (Edge n) (with_hooks n edge first second t.named)) where
   front_edge : (i : ℕ) → End (front i) ≡ Edge n → ⊥
   front_edge i eq = let f = ap is_end eq in cc
 
@@ -61,31 +61,31 @@ module _ (t : Lists) (q : Contents EdgeCell) (e n : ℕ) (old : e < n) (can : Ca
   front_front : End (front e) ≡ End (front n) → ⊥
   front_front eq = let same = ap number eq in omega (arith, old, same)
 
-  abbrev one_placed : Named
-  one_placed = placed (Edge n) edge t.named
+  abbrev one_hooked : Named
+  one_hooked = hooked (Edge n) edge t.named
 
-  abbrev two_placed : Named
-  two_placed = placed (End (front n)) first one_placed
+  abbrev two_hooked : Named
+  two_hooked = hooked (End (front n)) first one_hooked
 
   pub can_put_front : CanPutFront u q e (End (front n)) first
   can_put_front = record {
     beside = record {
       cell = can.cell;
       live = can.live;
-      place = ap (λ m. place_at m (End (front e))) named
-          ∙ place_else (End (back n)) second two_placed (End (front e)) (front_back e)
-          ∙ place_else (End (front n)) first one_placed (End (front e)) front_front
-          ∙ place_else (Edge n) edge t.named (End (front e)) (front_edge e) ∙ can.place;
+      hook = ap (λ m. hook_at m (End (front e))) named
+          ∙ hook_else (End (back n)) second two_hooked (End (front e)) (front_back e)
+          ∙ hook_else (End (front n)) first one_hooked (End (front e)) front_front
+          ∙ hook_else (Edge n) edge t.named (End (front e)) (front_edge e) ∙ can.hook;
       list = can.list;
-      there = subst (Has (End (front e))) (sym (ap (λ m. list_at m can.list) named ∙ pushed_list Edges (Edge n) (with_places n edge first second t.named) can.list)) (has_left (End (front e)) (list_at t.named can.list) _ can.there);
+      there = subst (Has (End (front e))) (sym (ap (λ m. list_at m can.list) named ∙ pushed_list Edges (Edge n) (with_hooks n edge first second t.named) can.list)) (has_left (End (front e)) (list_at t.named can.list) _ can.there);
       shows = ap (λ m. shows_at m (End (front e))) named
-          ∙ shows_else (End (back n)) second two_placed (End (front e)) (front_back e)
-          ∙ shows_else (End (front n)) first one_placed (End (front e)) front_front
+          ∙ shows_else (End (back n)) second two_hooked (End (front e)) (front_back e)
+          ∙ shows_else (End (front n)) first one_hooked (End (front e)) front_front
           ∙ shows_else (Edge n) edge t.named (End (front e)) (front_edge e) ∙ can.shows;
     };
-    place = ap (λ m. place_at m (End (front n))) named ∙ place_else (End (back n)) second two_placed (End (front n)) (front_back n) ∙ place_new (End (front n)) first one_placed;
+    hook = ap (λ m. hook_at m (End (front n))) named ∙ hook_else (End (back n)) second two_hooked (End (front n)) (front_back n) ∙ hook_new (End (front n)) first one_hooked;
     loose = subst (λ m. Has (End (front n)) m.loose) (sym named) (has_without same_element element_tells (Edge n) (End (front n)) (End (back n) ∷ End (front n) ∷ Edge n ∷ t.named.loose) (inr (inl refl)) (front_edge n));
-    shows = ap (λ m. shows_at m (End (front n))) named ∙ shows_else (End (back n)) second two_placed (End (front n)) (front_back n) ∙ shows_placed (End (front n)) first one_placed;
+    shows = ap (λ m. shows_at m (End (front n))) named ∙ shows_else (End (back n)) second two_hooked (End (front n)) (front_back n) ∙ shows_hooked (End (front n)) first one_hooked;
   }
 
 module _ (s : GraphState) (t : Lists) (top : Option Heads) (p : NodeCells) (pool : Contents EdgeCell) (k : IsKept s t top p pool.live) (made : pool.made ≡ s.made_edges) where
@@ -99,7 +99,7 @@ module _ (s : GraphState) (t : Lists) (top : Option Heads) (p : NodeCells) (pool
         beside = record {
           cell = c;
           live = at;
-          place = front_place s t top p pool.live k e c at;
+          hook = front_hook s t top p pool.live k e c at;
           list = Out (source s e);
           there = stands s t top p pool.live k (End (front e)) live;
           shows = k.shown (End (front e)) live ∙ shown;
@@ -111,15 +111,15 @@ module _ (s : GraphState) (t : Lists) (top : Option Heads) (p : NodeCells) (pool
       → IsLabel label → EdgeRoom s → Has e s.edges → Has (source s e) s.nodes → Has w s.nodes → shows_ends s (source s e, w) ≡ true → IsKept (with_edge_beside side e w label s) u top p after.live
   kept_beside side u after e v w label it row from is b lab room he hv hw shown =
       let n = s.made_edges + 1 in
-      let base = with_places n b.edge b.first b.second t.named in
-      let cell : EdgeCell = record { label = label; from = source s e; to = w; reversal = None; is_hidden = false; place = b.edge; front = b.first; back = b.second } in
+      let base = with_hooks n b.edge b.first b.second t.named in
+      let cell : EdgeCell = record { label = label; from = source s e; to = w; reversal = None; is_hidden = false; hook = b.edge; front = b.first; back = b.second } in
       let named : u.named ≡ pushed row (End (back n)) (put_beside side (End (front e)) (End (front n)) (pushed Edges (Edge n) base)) =
-      b.named ∙ ap (λ m. pushed row (End (back (m + 1))) (put_beside side (End (front e)) (End (front (m + 1))) (pushed Edges (Edge (m + 1)) (with_places (m + 1) b.edge b.first b.second t.named)))) made in
+      b.named ∙ ap (λ m. pushed row (End (back (m + 1))) (put_beside side (End (front e)) (End (front (m + 1))) (pushed Edges (Edge (m + 1)) (with_hooks (m + 1) b.edge b.first b.second t.named)))) made in
       kept_added s t top p pool k made u after (with_edge_beside side e w label s) (source s e) w label b.edge b.first b.second (adds_beside s k.formed side e w label he)
       (b.inserts.live
-      ∙ ap (λ m. map.insert pool.live (m + 1) (record { label = label; from = v; to = w; reversal = None; is_hidden = false; place = b.edge; front = b.first; back = b.second })) made
-      ∙ ap (λ v. map.insert pool.live n (record { label = label; from = v; to = w; reversal = None; is_hidden = false; place = b.edge; front = b.first; back = b.second })) from)
-      (λ x. ap (λ n. place_at n x) named)
+      ∙ ap (λ m. map.insert pool.live (m + 1) (record { label = label; from = v; to = w; reversal = None; is_hidden = false; hook = b.edge; front = b.first; back = b.second })) made
+      ∙ ap (λ v. map.insert pool.live n (record { label = label; from = v; to = w; reversal = None; is_hidden = false; hook = b.edge; front = b.first; back = b.second })) from)
+      (λ x. ap (λ n. hook_at n x) named)
       (λ x. ap (λ n. shows_at n x) named)
       (λ l. ap (λ n. head_at n l) named)
       (λ l. ap (λ n. list_at n l) named

@@ -1,4 +1,4 @@
--- The cell of an edge is replaced by another one with the same places.
+-- The cell of an edge is replaced by another one with the same hooks.
 use Rattle.std.proofs.Common.{◌≡◌, ℕ, Bool, true, false, Some, option_map, refl, sym, ap, ◌∙◌, inl, inr}
 use Rattle.std.specs.FinMap as map
 use Rattle.graph_state.specs.declared.name.Element.{Element}
@@ -6,7 +6,7 @@ use Rattle.graph_state.specs.declared.name.Element.TheVariants.{Node, Edge, End}
 use Rattle.graph_state.proofs.Same.{nat_tells}
 use Rattle.graph_state.proofs.Maps.{put_here, put_else, len_kept}
 use Rattle.graph_core.specs.declared.cell.EdgeCell.{EdgeCell}
-use Rattle.graph_core.specs.Kept.{NodeCells, EdgeCells, place_of, end_place}
+use Rattle.graph_core.specs.Kept.{NodeCells, EdgeCells, hook_of, end_hook}
 
 module _ (q after : EdgeCells) (e : ℕ) (c d : EdgeCell) (at : map.get q e ≡ Some c) (cells : after ≡ map.insert q e d) where
   pub got_here : (i : ℕ) → i ≡ e → map.get after i ≡ Some d
@@ -24,12 +24,12 @@ module _ (q after : EdgeCells) (e : ℕ) (c d : EdgeCell) (at : map.get q e ≡ 
     | inr n ↦ sym (ap (option_map f) (got_else i n.1))
   ]
 
-  module _ (p : NodeCells) (place : d.place ≡ c.place) (first : d.front ≡ c.front) (second : d.back ≡ c.back) where
-    end_stays : (b : Bool) → end_place b d ≡ end_place b c
+  module _ (p : NodeCells) (hook : d.hook ≡ c.hook) (first : d.front ≡ c.front) (second : d.back ≡ c.back) where
+    end_stays : (b : Bool) → end_hook b d ≡ end_hook b c
     end_stays true = second
     end_stays false = first
 
-    pub places_stay : (x : Element) → place_of p q x ≡ place_of p after x
-    places_stay (Node i) = refl
-    places_stay (Edge i) = part_stays (λ (c : EdgeCell). c.place) place i
-    places_stay (End x) = part_stays (end_place x.back) (end_stays x.back) x.edge
+    pub hooks_stay : (x : Element) → hook_of p q x ≡ hook_of p after x
+    hooks_stay (Node i) = refl
+    hooks_stay (Edge i) = part_stays (λ (c : EdgeCell). c.hook) hook i
+    hooks_stay (End x) = part_stays (end_hook x.back) (end_stays x.back) x.edge

@@ -40,7 +40,7 @@ module _ (s : GraphState) (t : Lists) (top : Option Heads) (p : NodeCells) (q : 
   unfolding cleared
   kept_cleared = record {
     heads = k.heads;
-    places = k.places;
+    hooks = k.hooks;
     lists = λ l. k.lists l ∙ all_empty l ∙ sym (lists_empty s l);
     shown = λ x i. absurd (nothing_live s x i);
     loose = k.loose;

@@ -11,14 +11,14 @@ use Rattle.graph_state.specs.State.{GraphState, front, back, visible_out, out_li
 use Rattle.graph_state.specs.Names.{Has, number}
 use Rattle.graph_state.proofs.Has.{some_same, not_both, has_map, has_mapped, has_filter}
 use Rattle.graph_state.proofs.Same.{nat_tells}
-use Rattle.graph_lists.specs.declared.token.Place.{Place}
-use Rattle.graph_lists.specs.Named.{Lists, Named, place_at, seen_list}
+use Rattle.graph_lists.specs.declared.token.Hook.{Hook}
+use Rattle.graph_lists.specs.Named.{Lists, Named, hook_at, seen_list}
 use Rattle.graph_lists.specs.Heads.{IsMemberOf}
 use Rattle.graph_core.specs.declared.cell.Heads.{Heads}
 use Rattle.graph_core.specs.declared.cell.EdgeCell.{EdgeCell}
 use Rattle.graph_core.specs.Kept.{NodeCells, IsKept}
 use Rattle.graph_core.specs.Darts.{IsDart}
-use Rattle.graph_core.proofs.Kept.{has_edge, front_place}
+use Rattle.graph_core.proofs.Kept.{has_edge, front_hook}
 use Rattle.graph_core.proofs.Found.{seen_out}
 
 pub map_itself : {X : Type 0} (xs : List X) → list.map (λ x. x) xs ≡ xs
@@ -55,23 +55,23 @@ same_not false false e = refl
 -- a member is that of the front dart, or not
 module _ (n : Named) (q : Contents EdgeCell) (m e : ℕ) (cell : EdgeCell) (at : map.get q.live e ≡ Some cell)
     (one : (b c : Bool) (x y : Element) → IsMemberOf n b x m → IsMemberOf n c y m → x ≡ y) where
-  place_first : (d : Dart) → e ≡ d.edge → IsDart n q (End d) → place_at n (End (front e)) ≡ Some cell.front
-  place_first d is t =
+  hook_first : (d : Dart) → e ≡ d.edge → IsDart n q (End d) → hook_at n (End (front e)) ≡ Some cell.front
+  hook_first d is t =
       let edge : t.dart.edge ≡ e = sym (is ∙ ap (λ x. number x) t.is) in
       let same : t.cell ≡ cell = some_same (sym t.live ∙ ap (map.get q.live) edge ∙ at) in
-      ap (λ i. place_at n (End (front i))) (sym edge) ∙ t.first ∙ ap (λ (c : EdgeCell). Some c.front) same
+      ap (λ i. hook_at n (End (front i))) (sym edge) ∙ t.first ∙ ap (λ (c : EdgeCell). Some c.front) same
 
   flag_is : (d : Dart) (f : Bool) → e ≡ d.edge → IsDart n q (End d) → IsMemberOf n true (End d) m → d.back ≡ f → (cell.front.shown == m) ≡ not f
   flag_is d true is t w back = elim (nat_tells cell.front.shown m) [
-    | inl y ↦ absurd (not_both back (sym (ap end_flag (one true true (End (front e)) (End d) (cell.front, (place_first d is t, y.1)) w))))
+    | inl y ↦ absurd (not_both back (sym (ap end_flag (one true true (End (front e)) (End d) (cell.front, (hook_first d is t, y.1)) w))))
     | inr ne ↦ ne.0
   ]
   flag_is d false is t w back = elim (nat_tells cell.front.shown m) [
     | inl y ↦ y.0
     | inr ne ↦
         let same : d ≡ front e = (λ i. record { edge = sym is i; back = back i }) in
-        let place : w.0 ≡ cell.front = some_same (sym w.1.0 ∙ ap (λ d. place_at n (End d)) same ∙ place_first d is t) in
-        absurd (ne.1 (ap (λ (p : Place). p.shown) (sym place) ∙ w.1.1))
+        let hook : w.0 ≡ cell.front = some_same (sym w.1.0 ∙ ap (λ d. hook_at n (End d)) same ∙ hook_first d is t) in
+        absurd (ne.1 (ap (λ (p : Hook). p.shown) (sym hook) ∙ w.1.1))
   ]
 
   pub dart_is : (x : Element) (f : Bool) → e ≡ number x → IsDart n q x → IsMemberOf n true x m → (cell.front.shown == m) ≡ not f → End (record { edge = e; back = f }) ≡ x
@@ -90,4 +90,4 @@ module _ (s : GraphState) (t : Lists) (top : Option Heads) (p : NodeCells) (pool
       let d = has_mapped End x (visible_out s v) (subst (Has x) (seen_out s t top p pool k made v) i) in
       let live = (k.formed.homes (Out v) (End d.0) (has_map End d.0 (out_list s v) (has_filter (shows_dart s) d.0 (out_list s v) d.1.0).0)).0 in
       let c = has_edge s t top p pool.live k d.0.edge live in
-      record { dart = d.0; is = d.1.1; cell = c.0; live = c.1; first = front_place s t top p pool.live k d.0.edge c.0 c.1 }
+      record { dart = d.0; is = d.1.1; cell = c.0; live = c.1; first = front_hook s t top p pool.live k d.0.edge c.0 c.1 }

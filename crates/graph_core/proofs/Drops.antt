@@ -8,7 +8,7 @@ use Rattle.graph_state.specs.Names.{Has, same_element, same_list, without}
 use Rattle.graph_state.specs.Parts.{is_part}
 use Rattle.graph_state.proofs.Has.{truth, not_both, filter_has, filter_twice, filter_same}
 use Rattle.graph_state.proofs.Same.{element_tells, same_is}
-use Rattle.graph_lists.specs.Named.{Lists, Named, place_at, list_at, SameRoom, unlinked, unplaced}
+use Rattle.graph_lists.specs.Named.{Lists, Named, hook_at, list_at, SameRoom, unlinked, unhooked}
 use Rattle.graph_lists.proofs.Numbers.{look_new, look_else, look_each}
 use Rattle.graph_core.specs.Removal.{is_it, Drops}
 use Rattle.graph_core.proofs.Names.{taken}
@@ -20,12 +20,12 @@ is_other : (x y : Element) → is_it x y ≡ false → y ≡ x → ⊥
 is_other x y f e = not_both (same_is same_element element_tells y x e) f
 
 -- one element leaves its list, and is gone
-pub drops_one : (t m u : Lists) (x : Element) → m.named ≡ unlinked x t.named → SameRoom t m → u.named ≡ unplaced x m.named → u.members + 2 ≡ m.members → u.heads ≡ m.heads → Drops t u (is_it x) 2
+pub drops_one : (t m u : Lists) (x : Element) → m.named ≡ unlinked x t.named → SameRoom t m → u.named ≡ unhooked x m.named → u.members + 2 ≡ m.members → u.heads ≡ m.heads → Drops t u (is_it x) 2
 drops_one t m u x first room second fewer same = record {
   heads = ap (λ (n : Named). n.heads) second ∙ ap (λ (n : Named). n.heads) first;
   lists = λ l. ap (λ n. list_at n l) second ∙ ap (λ n. list_at n l) first ∙ look_each same_list [] (without same_element x) t.named.lists l refl;
-  gone = λ y e. ap (λ n. place_at n y) second ∙ subst (λ y. place_at (unplaced x m.named) y ≡ None) (sym (is_same x y e)) (look_new same_element element_tells None x None m.named.places);
-  places = λ y e. ap (λ n. place_at n y) second ∙ look_else same_element element_tells None x y None m.named.places (is_other x y e) ∙ ap (λ n. place_at n y) first;
+  gone = λ y e. ap (λ n. hook_at n y) second ∙ subst (λ y. hook_at (unhooked x m.named) y ≡ None) (sym (is_same x y e)) (look_new same_element element_tells None x None m.named.hooks);
+  hooks = λ y e. ap (λ n. hook_at n y) second ∙ look_else same_element element_tells None x y None m.named.hooks (is_other x y e) ∙ ap (λ n. hook_at n y) first;
   shown = ap (λ (n : Named). n.shown) second ∙ ap (λ (n : Named). n.shown) first;
   loose = ap (λ (n : Named). n.loose) second ∙ ap (λ (n : Named). without same_element x n.loose) first ∙ taken x t.named.loose;
   same = same ∙ room.heads;
@@ -57,9 +57,9 @@ drops_on t m u p q a b first second = record {
   lists = λ l. second.lists l ∙ ap (filter (λ x. not (q x))) (first.lists l) ∙ both_out p q (list_at t.named l);
   gone = λ x e. elim (truth (q x)) [
     | inl y ↦ second.gone x y
-    | inr n ↦ second.places x n ∙ first.gone x (left_of (p x) (q x) e n)
+    | inr n ↦ second.hooks x n ∙ first.gone x (left_of (p x) (q x) e n)
   ];
-  places = λ x e. let n = none_of (p x) (q x) e in second.places x n.1 ∙ first.places x n.0;
+  hooks = λ x e. let n = none_of (p x) (q x) e in second.hooks x n.1 ∙ first.hooks x n.0;
   shown = second.shown ∙ first.shown;
   loose = second.loose ∙ ap (filter (λ x. not (q x))) first.loose ∙ both_out p q t.named.loose;
   same = second.same ∙ first.same;
@@ -71,7 +71,7 @@ drops_as t u p q n is d = record {
   heads = d.heads;
   lists = λ l. d.lists l ∙ filter_same (λ x. not (p x)) (λ x. not (q x)) (list_at t.named l) (λ x i. ap not (is x));
   gone = λ x e. d.gone x (is x ∙ e);
-  places = λ x e. d.places x (is x ∙ e);
+  hooks = λ x e. d.hooks x (is x ∙ e);
   shown = d.shown;
   loose = d.loose ∙ filter_same (λ x. not (p x)) (λ x. not (q x)) t.named.loose (λ x i. ap not (is x));
   same = d.same;

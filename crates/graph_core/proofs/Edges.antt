@@ -19,12 +19,12 @@ use Rattle.graph_state.proofs.Same.{nat_tells}
 use Rattle.graph_state.proofs.Maps.{put_here, put_else, len_put}
 use Rattle.graph_state.proofs.Lists.{one, edge_lists}
 use Rattle.graph_state.proofs.Added.{IsOf, AddsEdge, edge_fresh, new_unhidden, formed_edge, adds_edge, edge_either, live_either, shows_old, shows_new, nowhere}
-use Rattle.graph_lists.specs.declared.token.Place.{Place}
-use Rattle.graph_lists.specs.Named.{Lists, Named, head_at, place_at, list_at, shows_at, pushed, placed}
+use Rattle.graph_lists.specs.declared.token.Hook.{Hook}
+use Rattle.graph_lists.specs.Named.{Lists, Named, head_at, hook_at, list_at, shows_at, pushed, hooked}
 use Rattle.graph_core.specs.declared.cell.Heads.{Heads}
 use Rattle.graph_core.specs.declared.cell.EdgeCell.{EdgeCell}
-use Rattle.graph_core.specs.Kept.{NodeCells, place_of, end_place, IsEdgeCell, IsEdge, top_heads, Rises, IsKept}
-use Rattle.graph_core.specs.Steps.{with_places, CanEnterEdge, EntersEdge}
+use Rattle.graph_core.specs.Kept.{NodeCells, hook_of, end_hook, IsEdgeCell, IsEdge, top_heads, Rises, IsKept}
+use Rattle.graph_core.specs.Steps.{with_hooks, CanEnterEdge, EntersEdge}
 use Rattle.graph_core.proofs.Rises.{rises_push}
 use Rattle.graph_core.proofs.Names.{pushed_list, taken, shows_else}
 use Rattle.graph_core.proofs.Nodes.{node_kept, fresh_edge}
@@ -47,19 +47,19 @@ module _ (s : GraphState) (t : Lists) (top : Option Heads) (p : NodeCells) (pool
       record {
         members = (members, omega (arith, few, many, few_members));
         pool = (spare, subst (λ n. n < 16777215) (sym made) room.more);
-        no_place = k.places (Edge (pool.made + 1)) ∙ ap (option_map (λ (c : EdgeCell). c.place)) fresh;
-        no_front = k.places (End (front (pool.made + 1))) ∙ ap (option_map (end_place false)) fresh;
-        no_back = k.places (End (back (pool.made + 1))) ∙ ap (option_map (end_place true)) fresh;
+        no_hook = k.hooks (Edge (pool.made + 1)) ∙ ap (option_map (λ (c : EdgeCell). c.hook)) fresh;
+        no_front = k.hooks (End (front (pool.made + 1))) ∙ ap (option_map (end_hook false)) fresh;
+        no_back = k.hooks (End (back (pool.made + 1))) ∙ ap (option_map (end_hook true)) fresh;
       }
 
-  -- the next edge has a cell and three places, whatever its darts stand behind
-  module _ (u : Lists) (after : Contents EdgeCell) (z : GraphState) (v w : ℕ) (label : List ℕ) (edge first second : Place) (a : AddsEdge s z v w label) where
+  -- the next edge has a cell and three hooks, whatever its darts stand behind
+  module _ (u : Lists) (after : Contents EdgeCell) (z : GraphState) (v w : ℕ) (label : List ℕ) (edge first second : Hook) (a : AddsEdge s z v w label) where
     abbrev cell : EdgeCell
-    cell = record { label = label; from = v; to = w; reversal = None; is_hidden = false; place = edge; front = first; back = second }
+    cell = record { label = label; from = v; to = w; reversal = None; is_hidden = false; hook = edge; front = first; back = second }
 
     module _ (live : after.live ≡ map.insert pool.live (s.made_edges + 1) cell)
-        (places : (x : Element) → place_at u.named x ≡ place_at (with_places (s.made_edges + 1) edge first second t.named) x)
-        (marks : (x : Element) → shows_at u.named x ≡ shows_at (with_places (s.made_edges + 1) edge first second t.named) x) where
+        (hooks : (x : Element) → hook_at u.named x ≡ hook_at (with_hooks (s.made_edges + 1) edge first second t.named) x)
+        (marks : (x : Element) → shows_at u.named x ≡ shows_at (with_hooks (s.made_edges + 1) edge first second t.named) x) where
       got_here : (i : ℕ) → i ≡ s.made_edges + 1 → map.get after.live i ≡ Some cell
       got_here i e = ap (λ m. map.get m i) live ∙ put_here pool.live (s.made_edges + 1) cell i e
 
@@ -72,33 +72,33 @@ module _ (s : GraphState) (t : Lists) (top : Option Heads) (p : NodeCells) (pool
         | inr n ↦ ap (λ b. cond b (Some x) o) n.0 ∙ else ∙ sym (ap (option_map f) (got_else i (λ e. n.1 (sym e))))
       ]
 
-      end_places : (b : Bool) (i : ℕ) → place_at t.named (End (record { edge = i; back = b })) ≡ option_map (end_place b) (map.get pool.live i)
-          → place_at (with_places (s.made_edges + 1) edge first second t.named) (End (record { edge = i; back = b })) ≡ option_map (end_place b) (map.get after.live i)
-      end_places true i e = by_edge (end_place true) second (place_at t.named (End (back i))) i refl e
-      end_places false i e = by_edge (end_place false) first (place_at t.named (End (front i))) i refl e
+      end_hooks : (b : Bool) (i : ℕ) → hook_at t.named (End (record { edge = i; back = b })) ≡ option_map (end_hook b) (map.get pool.live i)
+          → hook_at (with_hooks (s.made_edges + 1) edge first second t.named) (End (record { edge = i; back = b })) ≡ option_map (end_hook b) (map.get after.live i)
+      end_hooks true i e = by_edge (end_hook true) second (hook_at t.named (End (back i))) i refl e
+      end_hooks false i e = by_edge (end_hook false) first (hook_at t.named (End (front i))) i refl e
 
-      pub edge_places : (x : Element) → place_at u.named x ≡ place_of p after.live x
-      edge_places (Node i) = places (Node i) ∙ k.places (Node i)
-      edge_places (Edge i) = places (Edge i) ∙ by_edge (λ (c : EdgeCell). c.place) edge (place_at t.named (Edge i)) i refl (k.places (Edge i))
-      edge_places (End d) = places (End d) ∙ end_places d.back d.edge (k.places (End d))
+      pub edge_hooks : (x : Element) → hook_at u.named x ≡ hook_of p after.live x
+      edge_hooks (Node i) = hooks (Node i) ∙ k.hooks (Node i)
+      edge_hooks (Edge i) = hooks (Edge i) ∙ by_edge (λ (c : EdgeCell). c.hook) edge (hook_at t.named (Edge i)) i refl (k.hooks (Edge i))
+      edge_hooks (End d) = hooks (End d) ∙ end_hooks d.back d.edge (k.hooks (End d))
 
       same_self_at : (i : ℕ) → i ≡ s.made_edges + 1 → (s.made_edges + 1 == i) ≡ true
       same_self_at i n = elim (nat_tells (s.made_edges + 1) i) [ inl y ↦ y.0 | inr ne ↦ absurd (ne.1 (sym n)) ]
 
-      marked_end : (b : Bool) (i : ℕ) → i ≡ s.made_edges + 1 → shows_at (with_places (s.made_edges + 1) edge first second t.named) (End (record { edge = i; back = b })) ≡ true
+      marked_end : (b : Bool) (i : ℕ) → i ≡ s.made_edges + 1 → shows_at (with_hooks (s.made_edges + 1) edge first second t.named) (End (record { edge = i; back = b })) ≡ true
       marked_end true i n = ap (λ b. cond b true (shows_at t.named (End (back i)))) (same_self_at i n)
       marked_end false i n = ap (λ b. cond b true (shows_at t.named (End (front i)))) (same_self_at i n)
 
-      marked_old : (x : Element) → IsLive s x → shows_at (with_places (s.made_edges + 1) edge first second t.named) x ≡ shows_at t.named x
+      marked_old : (x : Element) → IsLive s x → shows_at (with_hooks (s.made_edges + 1) edge first second t.named) x ≡ shows_at t.named x
       marked_old x i =
           let e = s.made_edges + 1 in
           let ne : (y : Element) → IsOf e y → x ≡ y → ⊥ = λ y n eq. nowhere s k.formed (home s x) x (subst (IsOf e) (sym eq) n) (k.formed.housed x i) in
-          shows_else (End (back e)) second (placed (End (front e)) first (placed (Edge e) edge t.named)) x (ne (End (back e)) refl)
-          ∙ shows_else (End (front e)) first (placed (Edge e) edge t.named) x (ne (End (front e)) refl)
+          shows_else (End (back e)) second (hooked (End (front e)) first (hooked (Edge e) edge t.named)) x (ne (End (back e)) refl)
+          ∙ shows_else (End (front e)) first (hooked (Edge e) edge t.named) x (ne (End (front e)) refl)
           ∙ shows_else (Edge e) edge t.named x (ne (Edge e) refl)
 
       -- what is new shows, and what was there shows as before
-      marked_new : (x : Element) → IsOf (s.made_edges + 1) x → shows_at (with_places (s.made_edges + 1) edge first second t.named) x ≡ true
+      marked_new : (x : Element) → IsOf (s.made_edges + 1) x → shows_at (with_hooks (s.made_edges + 1) edge first second t.named) x ≡ true
       marked_new (Node i) n = absurd n
       marked_new (Edge i) n = ap (λ b. cond b true (shows_at t.named (Edge i))) (same_self_at i n)
       marked_new (End d) n = marked_end d.back d.edge n
@@ -139,7 +139,7 @@ module _ (s : GraphState) (t : Lists) (top : Option Heads) (p : NodeCells) (pool
           let few_members = k.few_members in
           record {
             heads = λ l. heads l ∙ k.heads l;
-            places = edge_places;
+            hooks = edge_hooks;
             lists = lists;
             shown = edge_shown shown;
             loose = loose;
@@ -161,13 +161,13 @@ module _ (s : GraphState) (t : Lists) (top : Option Heads) (p : NodeCells) (pool
       → IsLabel label → EdgeRoom s → Has v s.nodes → Has w s.nodes → shows_ends s (v, w) ≡ true → IsKept (with_edge v w label s) u top p after.live
   kept_edge u after v w label it row is e lab room hv hw shown =
       let n = s.made_edges + 1 in
-      let base = with_places n e.edge e.first e.second t.named in
-      let cell : EdgeCell = record { label = label; from = v; to = w; reversal = None; is_hidden = false; place = e.edge; front = e.first; back = e.second } in
+      let base = with_hooks n e.edge e.first e.second t.named in
+      let cell : EdgeCell = record { label = label; from = v; to = w; reversal = None; is_hidden = false; hook = e.edge; front = e.first; back = e.second } in
       let named : u.named ≡ pushed row (End (back n)) (pushed (Out v) (End (front n)) (pushed Edges (Edge n) base)) =
-      e.named ∙ ap (λ m. pushed row (End (back (m + 1))) (pushed (Out v) (End (front (m + 1))) (pushed Edges (Edge (m + 1)) (with_places (m + 1) e.edge e.first e.second t.named)))) made in
+      e.named ∙ ap (λ m. pushed row (End (back (m + 1))) (pushed (Out v) (End (front (m + 1))) (pushed Edges (Edge (m + 1)) (with_hooks (m + 1) e.edge e.first e.second t.named)))) made in
       kept_added u after (with_edge v w label s) v w label e.edge e.first e.second (adds_edge s k.formed v w label)
       (e.inserts.live ∙ ap (λ m. map.insert pool.live (m + 1) cell) made)
-      (λ x. ap (λ n. place_at n x) named)
+      (λ x. ap (λ n. hook_at n x) named)
       (λ x. ap (λ n. shows_at n x) named)
       (λ l. ap (λ n. head_at n l) named)
       (λ l. ap (λ n. list_at n l) named

@@ -23,7 +23,7 @@ use Rattle.graph_core.specs.declared.cell.EdgeCell.{EdgeCell}
 use Rattle.graph_core.specs.Kept.{NodeCells, EdgeCells, IsKept}
 use Rattle.graph_core.specs.Members.{MayHaveEdge}
 use Rattle.graph_core.specs.Looks.{StandsBetween}
-use Rattle.graph_core.proofs.Kept.{is_live, has_node, has_edge, front_place}
+use Rattle.graph_core.proofs.Kept.{is_live, has_node, has_edge, front_hook}
 
 pub found_edge : (n : Named) (b : Bool) (m r : ℕ) (o : Option Element) → ((b : Bool) (x : Element) → IsMemberOf n b x m → r ≡ number x) → Finds n b (Some m) o → Some r ≡ option_map number o
 found_edge n b m r None is f = absurd f
@@ -148,7 +148,7 @@ module _ (s : GraphState) (t : Lists) (top : Option Heads) (p : NodeCells) (pool
         filter_has (shows_dart s) (front e) (out_list s (source s e)) (subst (λ d. Has d (out_list s (source s e))) (ap dart_of (sym h.1.1)) h.1.0) see.1
 
     pub front_member : IsMemberOf t.named true (End (front e)) c.front.shown
-    front_member = (c.front, (front_place s t top p pool.live k e c at, refl))
+    front_member = (c.front, (front_hook s t top p pool.live k e c at, refl))
 
     pub front_linked : heads.IsLinked t.named c.front.shown
     front_linked = (true, (Out (source s e), (End (front e), (subst (Has (End (front e))) (sym (seen_out (source s e))) (has_map End (front e) (visible_out s (source s e)) shown_front), front_member))))

@@ -24,35 +24,35 @@ use Rattle.graph_core.specs.Gathers.{stay, go, GoesIf, CanGather, Gathers, Gathe
 use Rattle.graph_core.proofs.Names.{pushed_list, taken}
 use Rattle.graph_core.proofs.Walks.{IsHere, here_at, none_left, no_rest}
 
--- where the places are the same, the same is found
-pub member_same : (n m : Named) → m.places ≡ n.places → (x : Element) (k : ℕ) → IsMemberOf n false x k → IsMemberOf m false x k
+-- where the hooks are the same, the same is found
+pub member_same : (n m : Named) → m.hooks ≡ n.hooks → (x : Element) (k : ℕ) → IsMemberOf n false x k → IsMemberOf m false x k
 member_same n m e x k w = (w.0, (ap (λ ps. look same_element None ps x) e ∙ w.1.0, w.1.1))
 
-pub finds_same : (n m : Named) → m.places ≡ n.places → (at : Option ℕ) (o : Option Element) → Finds n false at o → Finds m false at o
+pub finds_same : (n m : Named) → m.hooks ≡ n.hooks → (at : Option ℕ) (o : Option Element) → Finds n false at o → Finds m false at o
 finds_same n m e None None f = f
 finds_same n m e None (Some x) f = absurd f
 finds_same n m e (Some k) None f = absurd f
 finds_same n m e (Some k) (Some x) f = member_same n m e x k f
 
-edge_token_same : (n m : Named) (q : Contents EdgeCell) (l : ListName) (x : Element) → m.places ≡ n.places → IsToken n q l x → IsToken m q l x
+edge_token_same : (n m : Named) (q : Contents EdgeCell) (l : ListName) (x : Element) → m.hooks ≡ n.hooks → IsToken n q l x → IsToken m q l x
 edge_token_same n m q l x e t = record {
   cell = t.cell;
   live = t.live;
-  place = ap (λ ps. look same_element None ps x) e ∙ t.place;
+  hook = ap (λ ps. look same_element None ps x) e ∙ t.hook;
   first = ap (λ ps. look same_element None ps (End (front (number x)))) e ∙ t.first;
   fits = t.fits;
 }
 
-token_same : (n m : Named) (p : Contents NodeCell) (q : Contents EdgeCell) (l : ListName) (x : Element) → m.places ≡ n.places → IsTokenIn n p q l x → IsTokenIn m p q l x
-token_same n m p q Nodes x e t = record { cell = t.cell; live = t.live; place = ap (λ ps. look same_element None ps x) e ∙ t.place; fits = t.fits }
+token_same : (n m : Named) (p : Contents NodeCell) (q : Contents EdgeCell) (l : ListName) (x : Element) → m.hooks ≡ n.hooks → IsTokenIn n p q l x → IsTokenIn m p q l x
+token_same n m p q Nodes x e t = record { cell = t.cell; live = t.live; hook = ap (λ ps. look same_element None ps x) e ∙ t.hook; fits = t.fits }
 token_same n m p q Edges x e t = edge_token_same n m q Edges x e t
 token_same n m p q (Out v) x e t = edge_token_same n m q (Out v) x e t
 token_same n m p q (In v) x e t = edge_token_same n m q (In v) x e t
 
-pub tokens_same : (n m : Named) (p : Contents NodeCell) (q : Contents EdgeCell) (l : ListName) → m.places ≡ n.places → ((x : Element) → Has x (list_at m l) → Has x (list_at n l)) → HasTokens n p q l → HasTokens m p q l
+pub tokens_same : (n m : Named) (p : Contents NodeCell) (q : Contents EdgeCell) (l : ListName) → m.hooks ≡ n.hooks → ((x : Element) → Has x (list_at m l) → Has x (list_at n l)) → HasTokens n p q l → HasTokens m p q l
 tokens_same n m p q l e still all x i = token_same n m p q l x e (all x (still x i))
 
-abbrev pub walk_moved : (n m : Named) → m.places ≡ n.places → (xs : List Element) (ks : List ℕ) (turn : ℕ) (at : Option ℕ) → Walks (λ (k : ℕ). k) number n false xs ks turn at → Walks (λ (k : ℕ). k) number m false xs ks turn at
+abbrev pub walk_moved : (n m : Named) → m.hooks ≡ n.hooks → (xs : List Element) (ks : List ℕ) (turn : ℕ) (at : Option ℕ) → Walks (λ (k : ℕ). k) number n false xs ks turn at → Walks (λ (k : ℕ). k) number m false xs ks turn at
 walk_moved n m e xs ks turn at w = record {
   taken = w.taken;
   rest = w.rest;
@@ -72,7 +72,7 @@ module _ (n : Named) (p : Contents NodeCell) (q : Contents EdgeCell) (from to : 
     counted = refl;
     finds = f;
     gathers = record {
-      keeps = record { heads = refl; places = refl; shown = refl; loose = can.loose };
+      keeps = record { heads = refl; hooks = refl; shown = refl; loose = can.loose };
       left = refl;
       gone = sym (append-nil (list_at n to));
       else = λ l nf nt. refl;
@@ -93,7 +93,7 @@ module _ (n : Named) (p : Contents NodeCell) (q : Contents EdgeCell) (from to : 
     gathering_here k e = here_at m false g.rest k (subst (λ a. Finds m false a (first_of g.rest)) e g.finds)
 
     pub gathering_tokens : HasTokens m p q from
-    gathering_tokens = tokens_same n m p q from g.gathers.keeps.places
+    gathering_tokens = tokens_same n m p q from g.gathers.keeps.hooks
         (λ x i. subst (Has x) (sym g.is) (elim (has_either x (stay g.passed) g.rest (subst (Has x) g.gathers.left i)) [
           | inl j ↦ has_left x g.passed g.rest (has_filter (λ x. not (is_back x)) x g.passed j).0
           | inr j ↦ has_right x g.passed g.rest j
@@ -134,7 +134,7 @@ module _ (n : Named) (p : Contents NodeCell) (q : Contents EdgeCell) (from to : 
         goes b = record {
           keeps = record {
             heads = ap (λ (o : Named). o.heads) is ∙ g.gathers.keeps.heads;
-            places = ap (λ (o : Named). o.places) is ∙ g.gathers.keeps.places;
+            hooks = ap (λ (o : Named). o.hooks) is ∙ g.gathers.keeps.hooks;
             shown = ap (λ (o : Named). o.shown) is ∙ g.gathers.keeps.shown;
             loose = ap (λ (o : Named). o.loose) is ∙ taken h.x m.loose ∙ ap (without same_element h.x) g.gathers.keeps.loose;
           };
@@ -150,9 +150,9 @@ module _ (n : Named) (p : Contents NodeCell) (q : Contents EdgeCell) (from to : 
       either o true e r = goes o r.0 r.1 e
       either o false e r = subst (λ o. Gathers n o from to (g.passed ++ h.x ∷ []) h.behind) (sym r) (stays e)
 
-      same_places : (o : Named) (b : Bool) → GoesIf b m o to h.x → o.places ≡ m.places
-      same_places o true r = ap (λ (o : Named). o.places) r.0
-      same_places o false r = ap (λ (o : Named). o.places) r
+      same_hooks : (o : Named) (b : Bool) → GoesIf b m o to h.x → o.hooks ≡ m.hooks
+      same_hooks o true r = ap (λ (o : Named). o.hooks) r.0
+      same_hooks o false r = ap (λ (o : Named). o.hooks) r
 
       pub gathering_more : (o : Named) (next : Option ℕ) → GoesIf (is_back h.x) m o to h.x → Finds m false next (first_of h.behind) → Gathering n o from to (turn + 1) next
       gathering_more o next r f = record {
@@ -160,7 +160,7 @@ module _ (n : Named) (p : Contents NodeCell) (q : Contents EdgeCell) (from to : 
         rest = h.behind;
         is = g.is ∙ ap (λ ys. g.passed ++ ys) h.is ∙ sym (append_assoc g.passed (h.x ∷ []) h.behind);
         counted = length-append g.passed (h.x ∷ []) ∙ ap (λ i. i + 1) g.counted;
-        finds = finds_same m o (same_places o (is_back h.x) r) next (first_of h.behind) f;
+        finds = finds_same m o (same_hooks o (is_back h.x) r) next (first_of h.behind) f;
         gathers = either o (is_back h.x) refl r;
       }
 
@@ -201,7 +201,7 @@ row_edges false v e = let f : Edges ≡ Out v = e in cc
 module _ (n : Named) (directed : Bool) where
   pub all_none : n.loose ≡ [] → GathersAll n n directed []
   all_none loose = record {
-    keeps = record { heads = refl; places = refl; shown = refl; loose = loose };
+    keeps = record { heads = refl; hooks = refl; shown = refl; loose = loose };
     left = λ v i. absurd i;
     gone = λ v i. absurd i;
     else_left = λ v out. refl;
@@ -225,7 +225,7 @@ module _ (n : Named) (directed : Bool) where
             at_to = ap (λ hs. look same_list None hs (back_row (not directed) v)) g.keeps.heads ∙ heads (not directed);
             apart = row_sides directed v v;
             loose = g.keeps.loose;
-            tokens = tokens_same n m p q (back_row directed v) g.keeps.places (λ x i. subst (Has x) (g.else_left v out) i)
+            tokens = tokens_same n m p q (back_row directed v) g.keeps.hooks (λ x i. subst (Has x) (g.else_left v out) i)
                 (subst (λ n. HasTokens n p q (back_row directed v)) is (each.tokens (back_row directed v)));
           };
         }
@@ -242,7 +242,7 @@ module _ (n : Named) (directed : Bool) where
         record {
           keeps = record {
             heads = r.keeps.heads ∙ g.keeps.heads;
-            places = r.keeps.places ∙ g.keeps.places;
+            hooks = r.keeps.hooks ∙ g.keeps.hooks;
             shown = r.keeps.shown ∙ g.keeps.shown;
             loose = r.keeps.loose;
           };

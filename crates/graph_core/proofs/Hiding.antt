@@ -17,11 +17,11 @@ use Rattle.graph_core.specs.declared.cell.Heads.{Heads}
 use Rattle.graph_core.specs.declared.cell.EdgeCell.{EdgeCell}
 use Rattle.graph_core.specs.Kept.{NodeCells, EdgeCells, IsKept}
 use Rattle.graph_core.specs.Marks.{IsSame, Marks, PartsShow, IsNoPart, MarksParts, HasParts}
-use Rattle.graph_core.proofs.Kept.{edge_cell, edge_place, front_place, back_place, stands}
+use Rattle.graph_core.proofs.Kept.{edge_cell, edge_hook, front_hook, back_hook, stands}
 use Rattle.graph_core.proofs.Remarked.{remark_edge, nodes_as_before, one_edge, kept_remarked}
 
 pub same_on : (n m o : Named) → IsSame n m → IsSame m o → IsSame n o
-same_on n m o a b = record { heads = b.heads ∙ a.heads; places = b.places ∙ a.places; lists = b.lists ∙ a.lists; loose = b.loose ∙ a.loose }
+same_on n m o a b = record { heads = b.heads ∙ a.heads; hooks = b.hooks ∙ a.hooks; lists = b.lists ∙ a.lists; loose = b.loose ∙ a.loose }
 
 abbrev is_end : Element → Bool
 is_end (Node v) = false
@@ -75,9 +75,9 @@ module _ (s : GraphState) (t : Lists) (top : Option Heads) (p : NodeCells) (q : 
   has_parts =
       let live = (edge_cell s t top p q k e c at).listed in
       record {
-        place = edge_place s t top p q k e c at;
-        first = front_place s t top p q k e c at;
-        second = back_place s t top p q k e c at;
+        hook = edge_hook s t top p q k e c at;
+        first = front_hook s t top p q k e c at;
+        second = back_hook s t top p q k e c at;
         edge_in = stands s t top p q k (Edge e) live;
         first_in = stands s t top p q k (End (front e)) live;
         second_in = stands s t top p q k (End (back e)) live;

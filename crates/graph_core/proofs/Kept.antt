@@ -9,11 +9,11 @@ use Rattle.graph_state.specs.State.{GraphState, front, back, ends_of}
 use Rattle.graph_state.specs.Names.{Has, IsLive, home}
 use Rattle.graph_state.specs.Formed.{IsFormed}
 use Rattle.graph_state.proofs.Has.{some_or_none}
-use Rattle.graph_lists.specs.Named.{Lists, head_at, place_at, list_at, shows_at}
+use Rattle.graph_lists.specs.Named.{Lists, head_at, hook_at, list_at, shows_at}
 use Rattle.graph_core.specs.declared.cell.Heads.{Heads}
 use Rattle.graph_core.specs.declared.cell.NodeCell.{NodeCell}
 use Rattle.graph_core.specs.declared.cell.EdgeCell.{EdgeCell}
-use Rattle.graph_core.specs.Kept.{NodeCells, EdgeCells, end_place, IsNodeCell, IsEdgeCell, IsNode, IsEdge, top_heads, IsKept}
+use Rattle.graph_core.specs.Kept.{NodeCells, EdgeCells, end_hook, IsNodeCell, IsEdgeCell, IsNode, IsEdge, top_heads, IsKept}
 
 module _ (s : GraphState) (t : Lists) (top : Option Heads) (p : NodeCells) (q : EdgeCells) (k : IsKept s t top p q) where
   pub node_cell : (v : ℕ) (c : NodeCell) → map.get p v ≡ Some c → IsNodeCell s v c
@@ -35,17 +35,17 @@ module _ (s : GraphState) (t : Lists) (top : Option Heads) (p : NodeCells) (q : 
   has_edge e i = elim (some_or_none (map.get q e)) [ inl n ↦ absurd (no_edge e n i) | inr c ↦ c ]
 
   -- the tokens in a cell are those of its lists and elements
-  pub node_place : (v : ℕ) (c : NodeCell) → map.get p v ≡ Some c → place_at t.named (Node v) ≡ Some c.place
-  node_place v c e = k.places (Node v) ∙ ap (option_map (λ (c : NodeCell). c.place)) e
+  pub node_hook : (v : ℕ) (c : NodeCell) → map.get p v ≡ Some c → hook_at t.named (Node v) ≡ Some c.hook
+  node_hook v c e = k.hooks (Node v) ∙ ap (option_map (λ (c : NodeCell). c.hook)) e
 
-  pub edge_place : (e : ℕ) (c : EdgeCell) → map.get q e ≡ Some c → place_at t.named (Edge e) ≡ Some c.place
-  edge_place e c i = k.places (Edge e) ∙ ap (option_map (λ (c : EdgeCell). c.place)) i
+  pub edge_hook : (e : ℕ) (c : EdgeCell) → map.get q e ≡ Some c → hook_at t.named (Edge e) ≡ Some c.hook
+  edge_hook e c i = k.hooks (Edge e) ∙ ap (option_map (λ (c : EdgeCell). c.hook)) i
 
-  pub front_place : (e : ℕ) (c : EdgeCell) → map.get q e ≡ Some c → place_at t.named (End (front e)) ≡ Some c.front
-  front_place e c i = k.places (End (front e)) ∙ ap (option_map (end_place false)) i
+  pub front_hook : (e : ℕ) (c : EdgeCell) → map.get q e ≡ Some c → hook_at t.named (End (front e)) ≡ Some c.front
+  front_hook e c i = k.hooks (End (front e)) ∙ ap (option_map (end_hook false)) i
 
-  pub back_place : (e : ℕ) (c : EdgeCell) → map.get q e ≡ Some c → place_at t.named (End (back e)) ≡ Some c.back
-  back_place e c i = k.places (End (back e)) ∙ ap (option_map (end_place true)) i
+  pub back_hook : (e : ℕ) (c : EdgeCell) → map.get q e ≡ Some c → hook_at t.named (End (back e)) ≡ Some c.back
+  back_hook e c i = k.hooks (End (back e)) ∙ ap (option_map (end_hook true)) i
 
   pub out_head : (v : ℕ) (c : NodeCell) → map.get p v ≡ Some c → head_at t.named (Out v) ≡ Some c.outs
   out_head v c e = k.heads (Out v) ∙ ap (option_map (λ (c : NodeCell). c.outs)) e
@@ -78,7 +78,7 @@ module _ (s : GraphState) (t : Lists) (top : Option Heads) (p : NodeCells) (q : 
   kept_room u p' q' named same pe qe =
       subst (λ p'. IsKept s u top p' q') (sym pe) (subst (λ q'. IsKept s u top p q') (sym qe) (record {
         heads = λ l. ap (λ n. head_at n l) named ∙ k.heads l;
-        places = λ x. ap (λ n. place_at n x) named ∙ k.places x;
+        hooks = λ x. ap (λ n. hook_at n x) named ∙ k.hooks x;
         lists = λ l. ap (λ n. list_at n l) named ∙ k.lists l;
         shown = λ x i. ap (λ n. shows_at n x) named ∙ k.shown x i;
         loose = ap (λ n. n.loose) named ∙ k.loose;

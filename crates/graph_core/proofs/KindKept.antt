@@ -94,7 +94,7 @@ module _ (s : GraphState) (t : Lists) (top : Option Heads) (p : NodeCells) (q : 
   pub kept_changed : SameRoom t u → IsKept z u top p q
   kept_changed room = record {
     heads = λ l. ap (λ hs. look same_list None hs l) g.keeps.heads ∙ k.heads l;
-    places = λ x. ap (λ ps. look same_element None ps x) g.keeps.places ∙ k.places x;
+    hooks = λ x. ap (λ ps. look same_element None ps x) g.keeps.hooks ∙ k.hooks x;
     lists = lists_are;
     shown = λ x i. ap (λ bs. look same_element false bs x) g.keeps.shown ∙ k.shown x (live_before x i) ∙ sym (changes.shown x);
     loose = g.keeps.loose;

@@ -18,7 +18,7 @@ use Rattle.graph_lists.specs.Named.{Lists}
 use Rattle.graph_core.specs.declared.cell.Heads.{Heads}
 use Rattle.graph_core.specs.declared.cell.NodeCell.{NodeCell}
 use Rattle.graph_core.specs.declared.cell.EdgeCell.{EdgeCell}
-use Rattle.graph_core.specs.Kept.{NodeCells, EdgeCells, heads_of, place_of, end_place, IsNode, IsNodeCell, IsEdge, IsEdgeCell, IsKept}
+use Rattle.graph_core.specs.Kept.{NodeCells, EdgeCells, heads_of, hook_of, end_hook, IsNode, IsNodeCell, IsEdge, IsEdgeCell, IsKept}
 use Rattle.graph_core.proofs.Kept.{node_cell, has_node, edge_cell}
 use Rattle.graph_core.proofs.Pairs.{kept_columns}
 
@@ -46,10 +46,10 @@ module _ (s : GraphState) (t : Lists) (top : Option Heads) (p : NodeCells) (q : 
     node_heads (Out i) = part_put (λ (c : NodeCell). c.outs) p v c (record c { label = label }) at refl i
     node_heads (In i) = part_put (λ (c : NodeCell). c.ins) p v c (record c { label = label }) at refl i
 
-    node_places : (x : Element) → place_of (map.insert p v (record c { label = label })) q x ≡ place_of p q x
-    node_places (Node i) = part_put (λ (c : NodeCell). c.place) p v c (record c { label = label }) at refl i
-    node_places (Edge e) = refl
-    node_places (End d) = refl
+    node_hooks : (x : Element) → hook_of (map.insert p v (record c { label = label })) q x ≡ hook_of p q x
+    node_hooks (Node i) = part_put (λ (c : NodeCell). c.hook) p v c (record c { label = label }) at refl i
+    node_hooks (Edge e) = refl
+    node_hooks (End d) = refl
 
     new_node : (i : ℕ) → i ≡ v → IsNodeCell node_state i (record c { label = label })
     new_node i n = let j = subst (λ i. IsNodeCell s i c) (sym n) (node_cell s t top p q k v c at) in
@@ -66,7 +66,7 @@ module _ (s : GraphState) (t : Lists) (top : Option Heads) (p : NodeCells) (q : 
     pub kept_node_label : (after : NodeCells) → after ≡ map.insert p v (record c { label = label }) → IsLabel label → IsKept (with_node_label v label s) t top after q
     unfolding with_node_label
     kept_node_label after is lab = subst (λ m. IsKept node_state t top m q) (sym is) (kept_columns s t top p q k s.reversals node_labels s.edge_labels (map.insert p v (record c { label = label })) q
-        node_heads node_places (len_kept p v (record c { label = label }) c at) refl
+        node_heads node_hooks (len_kept p v (record c { label = label }) c at) refl
         (λ i. elim (nat_tells i v) [
           | inl y ↦ subst (IsNode node_state i) (sym (put_here p v (record c { label = label }) i y.1)) (new_node i y.1)
           | inr n ↦ subst (IsNode node_state i) (sym (put_else p v (record c { label = label }) i n.1)) (old_node i (map.get p i) n.1 (k.nodes i))
@@ -81,14 +81,14 @@ module _ (s : GraphState) (t : Lists) (top : Option Heads) (p : NodeCells) (q : 
     abbrev edge_state : GraphState
     edge_state = record s { edge_labels = edge_labels }
 
-    end_same : (g : Bool) → end_place g (record c { label = label }) ≡ end_place g c
+    end_same : (g : Bool) → end_hook g (record c { label = label }) ≡ end_hook g c
     end_same true = refl
     end_same false = refl
 
-    edge_places : (x : Element) → place_of p (map.insert q e (record c { label = label })) x ≡ place_of p q x
-    edge_places (Node i) = refl
-    edge_places (Edge i) = part_put (λ (c : EdgeCell). c.place) q e c (record c { label = label }) at refl i
-    edge_places (End d) = part_put (end_place d.back) q e c (record c { label = label }) at (end_same d.back) d.edge
+    edge_hooks : (x : Element) → hook_of p (map.insert q e (record c { label = label })) x ≡ hook_of p q x
+    edge_hooks (Node i) = refl
+    edge_hooks (Edge i) = part_put (λ (c : EdgeCell). c.hook) q e c (record c { label = label }) at refl i
+    edge_hooks (End d) = part_put (end_hook d.back) q e c (record c { label = label }) at (end_same d.back) d.edge
 
     new_edge : (i : ℕ) → i ≡ e → IsEdgeCell edge_state i (record c { label = label })
     new_edge i n = let j = subst (λ i. IsEdgeCell s i c) (sym n) (edge_cell s t top p q k e c at) in
@@ -105,7 +105,7 @@ module _ (s : GraphState) (t : Lists) (top : Option Heads) (p : NodeCells) (q : 
     pub kept_edge_label : (after : EdgeCells) → after ≡ map.insert q e (record c { label = label }) → IsLabel label → IsKept (with_edge_label e label s) t top p after
     unfolding with_edge_label
     kept_edge_label after is lab = subst (λ m. IsKept edge_state t top p m) (sym is) (kept_columns s t top p q k s.reversals s.node_labels edge_labels p (map.insert q e (record c { label = label }))
-        (λ l. refl) edge_places refl (len_kept q e (record c { label = label }) c at)
+        (λ l. refl) edge_hooks refl (len_kept q e (record c { label = label }) c at)
         (λ i. same_node i (map.get p i) (k.nodes i))
         (λ i. elim (nat_tells i e) [
           | inl y ↦ subst (IsEdge edge_state i) (sym (put_here q e (record c { label = label }) i y.1)) (new_edge i y.1)

@@ -15,7 +15,7 @@ use Rattle.graph_state.proofs.Removed.{edge_out, lists_gone, left_edge, edge_lef
 use Rattle.graph_lists.specs.Named.{Lists, head_at, shows_at}
 use Rattle.graph_core.specs.declared.cell.Heads.{Heads}
 use Rattle.graph_core.specs.declared.cell.EdgeCell.{EdgeCell}
-use Rattle.graph_core.specs.Kept.{NodeCells, EdgeCells, place_of, end_place, IsEdge, top_heads, IsKept}
+use Rattle.graph_core.specs.Kept.{NodeCells, EdgeCells, hook_of, end_hook, IsEdge, top_heads, IsKept}
 use Rattle.graph_core.specs.Pairs.{Unpairs}
 use Rattle.graph_core.specs.Removal.{Drops}
 use Rattle.graph_core.proofs.Kept.{edge_cell}
@@ -34,27 +34,27 @@ module _ (s : GraphState) (t : Lists) (top : Option Heads) (p : NodeCells) (q : 
     got_else : (i : ℕ) → (i ≡ e → ⊥) → map.get q' i ≡ map.get q i
     got_else i ne = ap (λ m. map.get m i) cells ∙ out_else q e i ne
 
-    no_place : {X : Type 0} (f : EdgeCell → X) (i : ℕ) → (i == e) ≡ true → option_map f (map.get q' i) ≡ None
-    no_place f i t = elim (nat_tells i e) [
+    no_hook : {X : Type 0} (f : EdgeCell → X) (i : ℕ) → (i == e) ≡ true → option_map f (map.get q' i) ≡ None
+    no_hook f i t = elim (nat_tells i e) [
       | inl y ↦ ap (option_map f) (got_none i y.1)
       | inr n ↦ absurd (not_both t n.0)
     ]
 
-    same_place : {X : Type 0} (f : EdgeCell → X) (i : ℕ) → (i == e) ≡ false → option_map f (map.get q' i) ≡ option_map f (map.get q i)
-    same_place f i n = elim (nat_tells i e) [
+    same_hook : {X : Type 0} (f : EdgeCell → X) (i : ℕ) → (i == e) ≡ false → option_map f (map.get q' i) ≡ option_map f (map.get q i)
+    same_hook f i n = elim (nat_tells i e) [
       | inl y ↦ absurd (not_both y.0 n)
       | inr ne ↦ ap (option_map f) (got_else i ne.1)
     ]
 
-    place_gone : (x : Element) → is_part e x ≡ true → place_of p q' x ≡ None
-    place_gone (Node v) y = absurd (not_both y refl)
-    place_gone (Edge i) y = no_place (λ (c : EdgeCell). c.place) i y
-    place_gone (End x) y = no_place (end_place x.back) x.edge y
+    hook_gone : (x : Element) → is_part e x ≡ true → hook_of p q' x ≡ None
+    hook_gone (Node v) y = absurd (not_both y refl)
+    hook_gone (Edge i) y = no_hook (λ (c : EdgeCell). c.hook) i y
+    hook_gone (End x) y = no_hook (end_hook x.back) x.edge y
 
-    place_left : (x : Element) → is_part e x ≡ false → place_of p q' x ≡ place_of p q x
-    place_left (Node v) n = refl
-    place_left (Edge i) n = same_place (λ (c : EdgeCell). c.place) i n
-    place_left (End x) n = same_place (end_place x.back) x.edge n
+    hook_left : (x : Element) → is_part e x ≡ false → hook_of p q' x ≡ hook_of p q x
+    hook_left (Node v) n = refl
+    hook_left (Edge i) n = same_hook (λ (c : EdgeCell). c.hook) i n
+    hook_left (End x) n = same_hook (end_hook x.back) x.edge n
 
     cell_left : (i : ℕ) (o : Option EdgeCell) → (i ≡ e → ⊥) → IsEdge s i o → IsEdge (edge_out e s) i o
     unfolding edge_out
@@ -77,9 +77,9 @@ module _ (s : GraphState) (t : Lists) (top : Option Heads) (p : NodeCells) (q : 
         let counted = k.counted.1 in
         record {
           heads = λ l. ap (λ hs. head_at (record u.named { heads = hs }) l) d.heads ∙ k.heads l;
-          places = λ x. elim (truth (is_part e x)) [
-            | inl y ↦ d.gone x y ∙ sym (place_gone x y)
-            | inr n ↦ d.places x n ∙ k.places x ∙ sym (place_left x n)
+          hooks = λ x. elim (truth (is_part e x)) [
+            | inl y ↦ d.gone x y ∙ sym (hook_gone x y)
+            | inr n ↦ d.hooks x n ∙ k.hooks x ∙ sym (hook_left x n)
           ];
           lists = λ l. d.lists l ∙ ap (filter (λ x. not (is_part e x))) (k.lists l) ∙ sym (lists_gone s k.formed e here l);
           shown = λ x i.

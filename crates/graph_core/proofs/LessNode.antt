@@ -13,12 +13,12 @@ use Rattle.graph_state.specs.Edits.{without_node}
 use Rattle.graph_state.proofs.Same.{nat_tells}
 use Rattle.graph_state.proofs.Maps.{out_here, out_else, len_out}
 use Rattle.graph_state.proofs.NodeRemoved.{node_out, without_alone, no_outs, no_ins, lists_left, left_node, node_left, live_left, hidden_left, shows_left, nodes_fewer, formed_alone}
-use Rattle.graph_lists.specs.Named.{Lists, Named, head_at, place_at, list_at, shows_at}
+use Rattle.graph_lists.specs.Named.{Lists, Named, head_at, hook_at, list_at, shows_at}
 use Rattle.graph_core.specs.declared.cell.Heads.{Heads}
 use Rattle.graph_core.specs.declared.cell.NodeCell.{NodeCell}
-use Rattle.graph_core.specs.Kept.{NodeCells, EdgeCells, heads_of, place_of, IsNode, IsKept}
+use Rattle.graph_core.specs.Kept.{NodeCells, EdgeCells, heads_of, hook_of, IsNode, IsKept}
 use Rattle.graph_core.specs.Removal.{is_it, HasNodeParts, DropsNode}
-use Rattle.graph_core.proofs.Kept.{node_cell, node_place, out_head, in_head, stands}
+use Rattle.graph_core.proofs.Kept.{node_cell, node_hook, out_head, in_head, stands}
 use Rattle.graph_core.proofs.Nodes.{edge_kept}
 
 module _ (s : GraphState) (t : Lists) (top : Option Heads) (p : NodeCells) (q : EdgeCells) (k : IsKept s t top p q) (v : ℕ) (c : NodeCell) (at : map.get p v ≡ Some c) (alone : IsAlone s v) where
@@ -28,7 +28,7 @@ module _ (s : GraphState) (t : Lists) (top : Option Heads) (p : NodeCells) (q : 
   -- the node stands in the node list, and nothing stands in its own lists
   pub has_node_parts : HasNodeParts t.named v c
   has_node_parts = record {
-    place = node_place s t top p q k v c at;
+    hook = node_hook s t top p q k v c at;
     there = stands s t top p q k (Node v) here;
     outs = out_head s t top p q k v c at;
     ins = in_head s t top p q k v c at;
@@ -59,19 +59,19 @@ module _ (s : GraphState) (t : Lists) (top : Option Heads) (p : NodeCells) (q : 
     heads_left (Out i) = ap (λ n. head_at n (Out i)) d.named ∙ ap (cond (v == i) None) (mid_head (Out i)) ∙ part_of (λ (c : NodeCell). c.outs) i
     heads_left (In i) = ap (λ n. head_at n (In i)) d.named ∙ ap (cond (v == i) None) (mid_head (In i)) ∙ part_of (λ (c : NodeCell). c.ins) i
 
-    same_place : (x : Element) → place_at u.named x ≡ place_at d.mid.named x
-    same_place x = ap (λ n. place_at n x) d.named
+    same_hook : (x : Element) → hook_at u.named x ≡ hook_at d.mid.named x
+    same_hook x = ap (λ n. hook_at n x) d.named
 
-    node_gone : (i : ℕ) → place_at u.named (Node i) ≡ option_map (λ (c : NodeCell). c.place) (map.get p' i)
+    node_gone : (i : ℕ) → hook_at u.named (Node i) ≡ option_map (λ (c : NodeCell). c.hook) (map.get p' i)
     node_gone i = elim (nat_tells i v) [
-      | inl y ↦ same_place (Node i) ∙ d.drops.gone (Node i) y.0 ∙ sym (ap (option_map (λ (c : NodeCell). c.place)) (got_none i y.1))
-      | inr n ↦ same_place (Node i) ∙ d.drops.places (Node i) n.0 ∙ k.places (Node i) ∙ sym (ap (option_map (λ (c : NodeCell). c.place)) (got_else i n.1))
+      | inl y ↦ same_hook (Node i) ∙ d.drops.gone (Node i) y.0 ∙ sym (ap (option_map (λ (c : NodeCell). c.hook)) (got_none i y.1))
+      | inr n ↦ same_hook (Node i) ∙ d.drops.hooks (Node i) n.0 ∙ k.hooks (Node i) ∙ sym (ap (option_map (λ (c : NodeCell). c.hook)) (got_else i n.1))
     ]
 
-    places_left : (x : Element) → place_at u.named x ≡ place_of p' q x
-    places_left (Node i) = node_gone i
-    places_left (Edge i) = same_place (Edge i) ∙ d.drops.places (Edge i) refl ∙ k.places (Edge i)
-    places_left (End x) = same_place (End x) ∙ d.drops.places (End x) refl ∙ k.places (End x)
+    hooks_left : (x : Element) → hook_at u.named x ≡ hook_of p' q x
+    hooks_left (Node i) = node_gone i
+    hooks_left (Edge i) = same_hook (Edge i) ∙ d.drops.hooks (Edge i) refl ∙ k.hooks (Edge i)
+    hooks_left (End x) = same_hook (End x) ∙ d.drops.hooks (End x) refl ∙ k.hooks (End x)
 
     cell_left : (i : ℕ) (o : Option NodeCell) → (i ≡ v → ⊥) → IsNode s i o → IsNode (node_out v s) i o
     unfolding node_out
@@ -96,7 +96,7 @@ module _ (s : GraphState) (t : Lists) (top : Option Heads) (p : NodeCells) (q : 
         let counted = k.counted.0 in
         record {
           heads = heads_left;
-          places = places_left;
+          hooks = hooks_left;
           lists = λ l. ap (λ n. list_at n l) d.named ∙ d.drops.lists l ∙ ap (filter (λ x. not (is_it (Node v) x))) (k.lists l) ∙ sym (lists_left s k.formed v alone l);
           shown = λ x i. ap (λ n. shows_at n x) d.named ∙ ap (λ ms. shows_at (record d.mid.named { shown = ms }) x) d.drops.shown
               ∙ k.shown x (live_left s k.formed v alone x i).0 ∙ sym (shows_left s k.formed v alone x i);

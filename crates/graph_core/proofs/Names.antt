@@ -6,8 +6,8 @@ use Rattle.graph_state.specs.declared.name.Element.{Element}
 use Rattle.graph_state.specs.Names.{same_element, same_list, without}
 use Rattle.graph_state.proofs.Same.{list_tells, element_tells, same_self}
 use Rattle.graph_state.proofs.Lists.{one}
-use Rattle.graph_lists.specs.declared.token.Place.{Place}
-use Rattle.graph_lists.specs.Named.{Lists, Named, place_at, list_at, shows_at, pushed, placed, SameRoom}
+use Rattle.graph_lists.specs.declared.token.Hook.{Hook}
+use Rattle.graph_lists.specs.Named.{Lists, Named, hook_at, list_at, shows_at, pushed, hooked, SameRoom}
 use Rattle.graph_lists.proofs.Numbers.{look_new, look_else}
 
 pub pushed_list : (k : ListName) (x : Element) (n : Named) (l : ListName) → list_at (pushed k x n) l ≡ list_at n l ++ one (same_list k l) x
@@ -21,17 +21,17 @@ pushed_list k x n l = elim (list_tells k l) [
 pub taken : (x : Element) (xs : List Element) → without same_element x (x ∷ xs) ≡ without same_element x xs
 taken x xs = ap (λ b. cond (not b) (x ∷ without same_element x xs) (without same_element x xs)) (same_self same_element element_tells x)
 
-pub shows_placed : (x : Element) (w : Place) (n : Named) → shows_at (placed x w n) x ≡ true
-shows_placed x w n = look_new same_element element_tells false x true n.shown
+pub shows_hooked : (x : Element) (w : Hook) (n : Named) → shows_at (hooked x w n) x ≡ true
+shows_hooked x w n = look_new same_element element_tells false x true n.shown
 
-pub shows_else : (x : Element) (w : Place) (n : Named) (y : Element) → (y ≡ x → ⊥) → shows_at (placed x w n) y ≡ shows_at n y
+pub shows_else : (x : Element) (w : Hook) (n : Named) (y : Element) → (y ≡ x → ⊥) → shows_at (hooked x w n) y ≡ shows_at n y
 shows_else x w n y ne = look_else same_element element_tells false x y true n.shown ne
 
-pub place_new : (x : Element) (w : Place) (n : Named) → place_at (placed x w n) x ≡ Some w
-place_new x w n = look_new same_element element_tells None x (Some w) n.places
+pub hook_new : (x : Element) (w : Hook) (n : Named) → hook_at (hooked x w n) x ≡ Some w
+hook_new x w n = look_new same_element element_tells None x (Some w) n.hooks
 
-pub place_else : (x : Element) (w : Place) (n : Named) (y : Element) → (y ≡ x → ⊥) → place_at (placed x w n) y ≡ place_at n y
-place_else x w n y ne = look_else same_element element_tells None x y (Some w) n.places ne
+pub hook_else : (x : Element) (w : Hook) (n : Named) (y : Element) → (y ≡ x → ⊥) → hook_at (hooked x w n) y ≡ hook_at n y
+hook_else x w n y ne = look_else same_element element_tells None x y (Some w) n.hooks ne
 
 -- the room stays, step by step
 pub room_same : (t : Lists) → SameRoom t t

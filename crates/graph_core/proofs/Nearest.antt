@@ -12,12 +12,12 @@ use Rattle.graph_state.specs.State.{front, back}
 use Rattle.graph_state.specs.Names.{Has, number, last_of}
 use Rattle.graph_state.proofs.Has.{some_same, not_both, has_right}
 use Rattle.graph_state.proofs.Same.{nat_tells, same_is}
-use Rattle.graph_lists.specs.declared.token.Place.{Place}
-use Rattle.graph_lists.specs.Named.{Named, place_at, list_at, shows_at, IsFirstShown, IsNextShown}
+use Rattle.graph_lists.specs.declared.token.Hook.{Hook}
+use Rattle.graph_lists.specs.Named.{Named, hook_at, list_at, shows_at, IsFirstShown, IsNextShown}
 use Rattle.graph_lists.specs.Heads.{IsMemberOf, Finds}
 use Rattle.graph_core.specs.declared.cell.NodeCell.{NodeCell}
 use Rattle.graph_core.specs.declared.cell.EdgeCell.{EdgeCell}
-use Rattle.graph_core.specs.Kept.{end_place}
+use Rattle.graph_core.specs.Kept.{end_hook}
 use Rattle.graph_core.specs.Marks.{token, Fits, IsToken, IsNodeToken, IsTokenIn, Passes}
 use Rattle.graph_core.proofs.Found.{cut}
 
@@ -47,45 +47,45 @@ other_token n p q Edges x ne t = t
 other_token n p q (Out v) x ne t = t
 other_token n p q (In v) x ne t = t
 
-pub at_node : (n : Named) (p : Contents NodeCell) (v : ℕ) (c : NodeCell) (x : Element) → map.get p.live v ≡ Some c → v ≡ number x → IsNodeToken n p x → (Node v ≡ x) × (place_at n x ≡ Some c.place)
+pub at_node : (n : Named) (p : Contents NodeCell) (v : ℕ) (c : NodeCell) (x : Element) → map.get p.live v ≡ Some c → v ≡ number x → IsNodeToken n p x → (Node v ≡ x) × (hook_at n x ≡ Some c.hook)
 at_node n p v c x at is t =
-    (ap Node is ∙ sym t.fits, t.place ∙ ap (λ (c : NodeCell). Some c.place) (some_same (sym t.live ∙ ap (map.get p.live) (sym is) ∙ at)))
+    (ap Node is ∙ sym t.fits, t.hook ∙ ap (λ (c : NodeCell). Some c.hook) (some_same (sym t.live ∙ ap (map.get p.live) (sym is) ∙ at)))
 
 module _ (n : Named) (q : Contents EdgeCell) (l : ListName) (m e : ℕ) (cell : EdgeCell) (at : map.get q.live e ≡ Some cell) where
   same_cell : (x : Element) → e ≡ number x → (t : IsToken n q l x) → t.cell ≡ cell
   same_cell x is t = some_same (sym t.live ∙ ap (map.get q.live) (sym is) ∙ at)
 
-  token_place : (x : Element) → e ≡ number x → IsToken n q l x → place_at n x ≡ Some (token cell x)
-  token_place x is t = t.place ∙ ap (λ c. Some (token c x)) (same_cell x is t)
+  token_hook : (x : Element) → e ≡ number x → IsToken n q l x → hook_at n x ≡ Some (token cell x)
+  token_hook x is t = t.hook ∙ ap (λ c. Some (token c x)) (same_cell x is t)
 
-  edge_token : (i : ℕ) → e ≡ i → place_at n (Edge i) ≡ Some cell.place → (Edge e ≡ Edge i) × (place_at n (Edge i) ≡ Some cell.place)
+  edge_token : (i : ℕ) → e ≡ i → hook_at n (Edge i) ≡ Some cell.hook → (Edge e ≡ Edge i) × (hook_at n (Edge i) ≡ Some cell.hook)
   edge_token i is p = (ap Edge is, p)
 
-  pub at_edge : (x : Element) → l ≡ Edges → e ≡ number x → IsToken n q l x → (Edge e ≡ x) × (place_at n x ≡ Some cell.place)
+  pub at_edge : (x : Element) → l ≡ Edges → e ≡ number x → IsToken n q l x → (Edge e ≡ x) × (hook_at n x ≡ Some cell.hook)
   at_edge x le is t =
       let i = fits_edge x (subst (λ l. Fits l x) le t.fits) in
-      subst (λ x. e ≡ number x → place_at n x ≡ Some (token cell x) → (Edge e ≡ x) × (place_at n x ≡ Some cell.place)) (sym i.1) (λ is p. edge_token i.0 is p) is (token_place x is t)
+      subst (λ x. e ≡ number x → hook_at n x ≡ Some (token cell x) → (Edge e ≡ x) × (hook_at n x ≡ Some cell.hook)) (sym i.1) (λ is p. edge_token i.0 is p) is (token_hook x is t)
 
   pub at_front : (x : Element) → e ≡ number x → IsToken n q l x → IsMemberOf n false x m → ((b c : Bool) (x y : Element) → IsMemberOf n b x m → IsMemberOf n c y m → x ≡ y) → (cell.front.full == m) ≡ true
-      → (End (front e) ≡ x) × (place_at n x ≡ Some cell.front)
+      → (End (front e) ≡ x) × (hook_at n x ≡ Some cell.front)
   at_front x is t w one eq =
-      let f : place_at n (End (front e)) ≡ Some cell.front = ap (λ i. place_at n (End (front i))) is ∙ t.first ∙ ap (λ (c : EdgeCell). Some c.front) (same_cell x is t) in
+      let f : hook_at n (End (front e)) ≡ Some cell.front = ap (λ i. hook_at n (End (front i))) is ∙ t.first ∙ ap (λ (c : EdgeCell). Some c.front) (same_cell x is t) in
       let full : cell.front.full ≡ m = elim (nat_tells cell.front.full m) [ inl y ↦ y.1 | inr ne ↦ absurd (not_both eq ne.0) ] in
       let same = one false false (End (front e)) x (cell.front, (f, full)) w in
-      (same, ap (place_at n) (sym same) ∙ f)
+      (same, ap (hook_at n) (sym same) ∙ f)
 
-  back_token : (g : Bool) (i : ℕ) → e ≡ i → place_at n (End (record { edge = i; back = g })) ≡ Some (end_place g cell) → IsMemberOf n false (End (record { edge = i; back = g })) m → (cell.front.full == m) ≡ false
-      → (End (back e) ≡ End (record { edge = i; back = g })) × (place_at n (End (record { edge = i; back = g })) ≡ Some cell.back)
+  back_token : (g : Bool) (i : ℕ) → e ≡ i → hook_at n (End (record { edge = i; back = g })) ≡ Some (end_hook g cell) → IsMemberOf n false (End (record { edge = i; back = g })) m → (cell.front.full == m) ≡ false
+      → (End (back e) ≡ End (record { edge = i; back = g })) × (hook_at n (End (record { edge = i; back = g })) ≡ Some cell.back)
   back_token true i is p w eq = (ap (λ i. End (back i)) is, p)
   back_token false i is p w eq =
-      let full : cell.front.full ≡ m = ap (λ (w : Place). w.full) (some_same (sym p ∙ w.1.0)) ∙ w.1.1 in
+      let full : cell.front.full ≡ m = ap (λ (w : Hook). w.full) (some_same (sym p ∙ w.1.0)) ∙ w.1.1 in
       absurd (not_both (same_is ◌==◌ nat_tells cell.front.full m full) eq)
 
-  pub at_back : (x : Element) → (l ≡ Edges → ⊥) → e ≡ number x → IsToken n q l x → IsMemberOf n false x m → (cell.front.full == m) ≡ false → (End (back e) ≡ x) × (place_at n x ≡ Some cell.back)
+  pub at_back : (x : Element) → (l ≡ Edges → ⊥) → e ≡ number x → IsToken n q l x → IsMemberOf n false x m → (cell.front.full == m) ≡ false → (End (back e) ≡ x) × (hook_at n x ≡ Some cell.back)
   at_back x ne is t w eq =
       let d = fits_end l x ne t.fits in
-      subst (λ x. e ≡ number x → place_at n x ≡ Some (token cell x) → IsMemberOf n false x m → (End (back e) ≡ x) × (place_at n x ≡ Some cell.back)) (sym d.1)
-      (λ is p w. back_token d.0.back d.0.edge is p w eq) is (token_place x is t) w
+      subst (λ x. e ≡ number x → hook_at n x ≡ Some (token cell x) → IsMemberOf n false x m → (End (back e) ≡ x) × (hook_at n x ≡ Some cell.back)) (sym d.1)
+      (λ is p w. back_token d.0.back d.0.edge is p w eq) is (token_hook x is t) w
 
 -- the last element of what stands before, with its member
 pub record IsLast (n : Named) (before : List Element) (m : ℕ) : Type 0 where

@@ -13,7 +13,7 @@ use Rattle.graph_core.specs.Marks.{IsSame, PartsShow, IsNoPart, MarksIf}
 use Rattle.graph_core.specs.NodeMarks.{TurnsAll, Passed}
 use Rattle.graph_core.proofs.Hiding.{same_on, part_shows, no_part}
 use Rattle.graph_core.proofs.Walks.{IsHere, here_at, none_left, no_rest}
-use Rattle.graph_core.proofs.Showing.{same_place_at}
+use Rattle.graph_core.proofs.Showing.{same_hook_at}
 
 module _ (n m : Named) (e : ℕ) (b : Bool) where
   pub if_same : (c : Bool) → MarksIf c n m e b → IsSame n m
@@ -43,7 +43,7 @@ module _ (n m : Named) (e : ℕ) (b : Bool) where
   parts_stay_so c h i s = record { edge = if_stays c h _ s.edge; first = if_stays c h _ s.first; second = if_stays c h _ s.second }
 
 pub same_self_named : (n : Named) → IsSame n n
-same_self_named n = record { heads = refl; places = refl; lists = refl; loose = refl }
+same_self_named n = record { heads = refl; hooks = refl; lists = refl; loose = refl }
 
 module _ (g : ℕ → Bool) (b : Bool) where
   pub turns_none : (n : Named) → TurnsAll g b n n []
@@ -129,10 +129,10 @@ module _ (P : List Element → Type 0) (n : Named) (l : ListName) where
 
 -- a member of the lists as they were is one of the lists as they are, and the other way round
 pub member_stays : (n m : Named) → IsSame n m → (x : Element) (k : ℕ) → IsMemberOf n false x k → IsMemberOf m false x k
-member_stays n m same x k w = (w.0, (same_place_at n m same x ∙ w.1.0, w.1.1))
+member_stays n m same x k w = (w.0, (same_hook_at n m same x ∙ w.1.0, w.1.1))
 
 pub finds_back : (n m : Named) → IsSame n m → (at : Option ℕ) (o : Option Element) → Finds m false at o → Finds n false at o
 finds_back n m same None None f = f
 finds_back n m same None (Some x) f = f
 finds_back n m same (Some k) None f = f
-finds_back n m same (Some k) (Some x) f = (f.0, (sym (same_place_at n m same x) ∙ f.1.0, f.1.1))
+finds_back n m same (Some k) (Some x) f = (f.0, (sym (same_hook_at n m same x) ∙ f.1.0, f.1.1))

@@ -20,14 +20,14 @@ use Rattle.graph_state.proofs.Same.{nat_tells}
 use Rattle.graph_state.proofs.Maps.{put_here, put_else, len_put}
 use Rattle.graph_state.proofs.Lists.{one}
 use Rattle.graph_state.proofs.Added.{node_fresh, edge_fresh, new_node_unhidden, new_lists, node_either, node_shows, formed_node}
-use Rattle.graph_lists.specs.Named.{Lists, Named, head_at, place_at, list_at, shows_at, pushed, placed, listed}
+use Rattle.graph_lists.specs.Named.{Lists, Named, head_at, hook_at, list_at, shows_at, pushed, hooked, listed}
 use Rattle.graph_core.specs.declared.cell.Heads.{Heads}
 use Rattle.graph_core.specs.declared.cell.NodeCell.{NodeCell}
 use Rattle.graph_core.specs.declared.cell.EdgeCell.{EdgeCell}
-use Rattle.graph_core.specs.Kept.{NodeCells, EdgeCells, heads_of, place_of, IsNodeCell, IsNode, IsEdge, top_heads, Rises, IsKept}
+use Rattle.graph_core.specs.Kept.{NodeCells, EdgeCells, heads_of, hook_of, IsNodeCell, IsNode, IsEdge, top_heads, Rises, IsKept}
 use Rattle.graph_core.specs.Steps.{Comes, Opens, CanEnterNode, EntersNode}
 use Rattle.graph_core.proofs.Kept.{node_cell, edge_cell}
-use Rattle.graph_core.proofs.Names.{pushed_list, taken, shows_placed, shows_else}
+use Rattle.graph_core.proofs.Names.{pushed_list, taken, shows_hooked, shows_else}
 
 -- the cell of a node stays right where its columns stay
 pub node_kept : (s t : GraphState) (v : ℕ) (o : Option NodeCell) → t.nodes ≡ s.nodes → t.node_labels ≡ s.node_labels → t.hidden_nodes ≡ s.hidden_nodes → IsNode s v o → IsNode t v o
@@ -67,7 +67,7 @@ module _ (s : GraphState) (t : Lists) (top : Option Heads) (p : NodeCells) (q : 
     kept_come : Comes t u after → top ≡ None → IsKept s u after p q
     kept_come c none = record {
       heads = open_heads c none;
-      places = λ x. ap (λ n. place_at n x) c.named ∙ k.places x;
+      hooks = λ x. ap (λ n. hook_at n x) c.named ∙ k.hooks x;
       lists = λ l. ap (λ n. list_at n l) c.named ∙ k.lists l;
       shown = λ x i. ap (λ n. shows_at n x) c.named ∙ k.shown x i;
       loose = ap (λ (n : Named). n.loose) c.named ∙ k.loose;
@@ -115,16 +115,16 @@ module _ (s : GraphState) (t : Lists) (h : Heads) (pool : Contents NodeCell) (q 
         pool = (spare, subst (λ n. n < 16777215) (sym made) room.more);
         no_outs = k.heads (Out (pool.made + 1)) ∙ ap (option_map (λ (c : NodeCell). c.outs)) fresh;
         no_ins = k.heads (In (pool.made + 1)) ∙ ap (option_map (λ (c : NodeCell). c.ins)) fresh;
-        no_place = k.places (Node (pool.made + 1)) ∙ ap (option_map (λ (c : NodeCell). c.place)) fresh;
+        no_hook = k.hooks (Node (pool.made + 1)) ∙ ap (option_map (λ (c : NodeCell). c.hook)) fresh;
         nodes = k.heads Nodes;
       }
 
   module _ (u : Lists) (after : Contents NodeCell) (label : List ℕ) (it : Item) (e : EntersNode t u pool after h.nodes label it) where
     abbrev cell : NodeCell
-    cell = record { label = label; is_hidden = false; place = e.place; outs = e.outs; ins = e.ins }
+    cell = record { label = label; is_hidden = false; hook = e.hook; outs = e.outs; ins = e.ins }
 
     abbrev node_named : ℕ → Named
-    node_named n = pushed Nodes (Node n) (placed (Node n) e.place (listed (In n) e.ins (listed (Out n) e.outs t.named)))
+    node_named n = pushed Nodes (Node n) (hooked (Node n) e.hook (listed (In n) e.ins (listed (Out n) e.outs t.named)))
 
     named : u.named ≡ node_named (s.made_nodes + 1)
     named = e.named ∙ ap (λ n. node_named (n + 1)) made
@@ -151,21 +151,21 @@ module _ (s : GraphState) (t : Lists) (h : Heads) (pool : Contents NodeCell) (q 
     node_heads (Out v) = ap (λ n. head_at n (Out v)) named ∙ by_node (λ (c : NodeCell). c.outs) e.outs (head_at t.named (Out v)) v refl (k.heads (Out v))
     node_heads (In v) = ap (λ n. head_at n (In v)) named ∙ by_node (λ (c : NodeCell). c.ins) e.ins (head_at t.named (In v)) v refl (k.heads (In v))
 
-    node_places : (x : Element) → place_at u.named x ≡ place_of after.live q x
-    node_places (Node v) = ap (λ n. place_at n (Node v)) named ∙ by_node (λ (c : NodeCell). c.place) e.place (place_at t.named (Node v)) v refl (k.places (Node v))
-    node_places (Edge i) = ap (λ n. place_at n (Edge i)) named ∙ k.places (Edge i)
-    node_places (End d) = ap (λ n. place_at n (End d)) named ∙ k.places (End d)
+    node_hooks : (x : Element) → hook_at u.named x ≡ hook_of after.live q x
+    node_hooks (Node v) = ap (λ n. hook_at n (Node v)) named ∙ by_node (λ (c : NodeCell). c.hook) e.hook (hook_at t.named (Node v)) v refl (k.hooks (Node v))
+    node_hooks (Edge i) = ap (λ n. hook_at n (Edge i)) named ∙ k.hooks (Edge i)
+    node_hooks (End d) = ap (λ n. hook_at n (End d)) named ∙ k.hooks (End d)
 
     shown_old : (x : Element) → IsLive s x → shows_at u.named x ≡ shows (with_node label s) x
     shown_old x i =
         ap (λ n. shows_at n x) named
-        ∙ shows_else (Node (s.made_nodes + 1)) e.place (listed (In (s.made_nodes + 1)) e.ins (listed (Out (s.made_nodes + 1)) e.outs t.named)) x (λ n. node_fresh s k.formed (subst (IsLive s) n i))
+        ∙ shows_else (Node (s.made_nodes + 1)) e.hook (listed (In (s.made_nodes + 1)) e.ins (listed (Out (s.made_nodes + 1)) e.outs t.named)) x (λ n. node_fresh s k.formed (subst (IsLive s) n i))
         ∙ k.shown x i ∙ sym (node_shows s k.formed label x)
 
     shown_new : shows_at u.named (Node (s.made_nodes + 1)) ≡ shows (with_node label s) (Node (s.made_nodes + 1))
     shown_new =
         ap (λ n. shows_at n (Node (s.made_nodes + 1))) named
-        ∙ shows_placed (Node (s.made_nodes + 1)) e.place (listed (In (s.made_nodes + 1)) e.ins (listed (Out (s.made_nodes + 1)) e.outs t.named))
+        ∙ shows_hooked (Node (s.made_nodes + 1)) e.hook (listed (In (s.made_nodes + 1)) e.ins (listed (Out (s.made_nodes + 1)) e.outs t.named))
         ∙ sym (node_shows s k.formed label (Node (s.made_nodes + 1)) ∙ ap not (new_node_unhidden s k.formed))
 
     new_cell : (v : ℕ) → v ≡ s.made_nodes + 1 → IsNodeCell (with_node label s) v cell
@@ -210,8 +210,8 @@ module _ (s : GraphState) (t : Lists) (h : Heads) (pool : Contents NodeCell) (q 
         let few_members = k.few_members in
         record {
           heads = node_heads;
-          places = node_places;
-          lists = λ l. ap (λ n. list_at n l) named ∙ pushed_list Nodes (Node (s.made_nodes + 1)) (placed (Node (s.made_nodes + 1)) e.place (listed (In (s.made_nodes + 1)) e.ins (listed (Out (s.made_nodes + 1)) e.outs t.named))) l
+          hooks = node_hooks;
+          lists = λ l. ap (λ n. list_at n l) named ∙ pushed_list Nodes (Node (s.made_nodes + 1)) (hooked (Node (s.made_nodes + 1)) e.hook (listed (In (s.made_nodes + 1)) e.ins (listed (Out (s.made_nodes + 1)) e.outs t.named))) l
               ∙ ap (λ xs. xs ++ one (same_list Nodes l) (Node (s.made_nodes + 1))) (k.lists l) ∙ sym (new_lists s k.formed label l);
           shown = λ x i. elim (node_either s k.formed label x i) [
             | inl j ↦ shown_old x j

@@ -19,7 +19,7 @@ use Rattle.graph_lists.specs.Named.{Lists}
 use Rattle.graph_core.specs.declared.cell.Heads.{Heads}
 use Rattle.graph_core.specs.declared.cell.NodeCell.{NodeCell}
 use Rattle.graph_core.specs.declared.cell.EdgeCell.{EdgeCell}
-use Rattle.graph_core.specs.Kept.{NodeCells, EdgeCells, heads_of, place_of, end_place, IsNode, IsEdge, top_heads, IsKept}
+use Rattle.graph_core.specs.Kept.{NodeCells, EdgeCells, heads_of, hook_of, end_hook, IsNode, IsEdge, top_heads, IsKept}
 use Rattle.graph_core.specs.Pairs.{Reversals, HasReversals, Rewires, reversal_put, PutsReversal, Unpairs, CanUnpair, pair_reversals, Pairs}
 use Rattle.graph_core.proofs.Kept.{edge_cell}
 use Rattle.graph_core.proofs.Found.{has_live}
@@ -111,11 +111,11 @@ module _ (p q : Contents EdgeCell) where
 
 -- lists as before, and cells with the same tokens
 module _ (s : GraphState) (t : Lists) (top : Option Heads) (p : NodeCells) (q : EdgeCells) (k : IsKept s t top p q) (r : Reversals) (a b : map.FinMap nat_cmp (List ℕ)) where
-  pub kept_columns : (p' : NodeCells) (q' : EdgeCells) → ((l : ListName) → heads_of top p' l ≡ heads_of top p l) → ((x : Element) → place_of p' q' x ≡ place_of p q x) → map.len p' ≡ map.len p → map.len q' ≡ map.len q
+  pub kept_columns : (p' : NodeCells) (q' : EdgeCells) → ((l : ListName) → heads_of top p' l ≡ heads_of top p l) → ((x : Element) → hook_of p' q' x ≡ hook_of p q x) → map.len p' ≡ map.len p → map.len q' ≡ map.len q
       → ((v : ℕ) → IsNode (with_columns s r a b) v (map.get p' v)) → ((e : ℕ) → IsEdge (with_columns s r a b) e (map.get q' e)) → IsFormed (with_columns s r a b) → IsKept (with_columns s r a b) t top p' q'
-  kept_columns p' q' heads places nodes_len edges_len nodes edges formed = record {
+  kept_columns p' q' heads hooks nodes_len edges_len nodes edges formed = record {
     heads = λ l. k.heads l ∙ sym (heads l);
-    places = λ x. k.places x ∙ sym (places x);
+    hooks = λ x. k.hooks x ∙ sym (hooks x);
     lists = λ l. k.lists l ∙ sym (lists_stay s r a b l);
     shown = λ x i. k.shown x (live_stays s r a b x i) ∙ sym (shows_stays s r a b x);
     loose = k.loose;
@@ -134,7 +134,7 @@ part_stays : {X : Type 0} (f : EdgeCell → X) (x : Option ℕ) → ((c : EdgeCe
 part_stays f x alike None = refl
 part_stays f x alike (Some c) = ap Some (alike c)
 
-end_stays : (x : Option ℕ) (g : Bool) (c : EdgeCell) → end_place g (record c { reversal = x }) ≡ end_place g c
+end_stays : (x : Option ℕ) (g : Bool) (c : EdgeCell) → end_hook g (record c { reversal = x }) ≡ end_hook g c
 end_stays x true c = refl
 end_stays x false c = refl
 
@@ -147,10 +147,10 @@ module _ (s : GraphState) (t : Lists) (top : Option Heads) (p : NodeCells) (pool
   reversals_kept i c at = (edge_cell s t top p pool.live k i c at).reversal
 
   module _ (after : Contents EdgeCell) (r : Reversals) (w : Rewires pool after r) where
-    rewired_places : (x : Element) → place_of p after.live x ≡ place_of p pool.live x
-    rewired_places (Node v) = refl
-    rewired_places (Edge i) = ap (option_map (λ (c : EdgeCell). c.place)) (w.cells i) ∙ part_stays (λ (c : EdgeCell). c.place) (map.get r i) (λ c. refl) (map.get pool.live i)
-    rewired_places (End d) = ap (option_map (end_place d.back)) (w.cells d.edge) ∙ part_stays (end_place d.back) (map.get r d.edge) (end_stays (map.get r d.edge) d.back) (map.get pool.live d.edge)
+    rewired_hooks : (x : Element) → hook_of p after.live x ≡ hook_of p pool.live x
+    rewired_hooks (Node v) = refl
+    rewired_hooks (Edge i) = ap (option_map (λ (c : EdgeCell). c.hook)) (w.cells i) ∙ part_stays (λ (c : EdgeCell). c.hook) (map.get r i) (λ c. refl) (map.get pool.live i)
+    rewired_hooks (End d) = ap (option_map (end_hook d.back)) (w.cells d.edge) ∙ part_stays (end_hook d.back) (map.get r d.edge) (end_stays (map.get r d.edge) d.back) (map.get pool.live d.edge)
 
     rewired_cell : (e : ℕ) (o : Option EdgeCell) → IsEdge s e o → IsEdge (record s { reversals = r }) e (option_map (λ (c : EdgeCell). record c { reversal = map.get r e }) o)
     rewired_cell e None i = i
@@ -162,7 +162,7 @@ module _ (s : GraphState) (t : Lists) (top : Option Heads) (p : NodeCells) (pool
 
     -- the cells have other reversals, and so has the state
     pub kept_rewired : IsFormed (record s { reversals = r }) → IsKept (record s { reversals = r }) t top p after.live
-    kept_rewired formed = kept_columns s t top p pool.live k r s.node_labels s.edge_labels p after.live (λ l. refl) rewired_places refl w.count
+    kept_rewired formed = kept_columns s t top p pool.live k r s.node_labels s.edge_labels p after.live (λ l. refl) rewired_hooks refl w.count
         (λ v. rewired_node v (map.get p v) (k.nodes v)) (λ e. subst (IsEdge (record s { reversals = r }) e) (sym (w.cells e)) (rewired_cell e (map.get pool.live e) (k.edges e))) formed
 
   -- an edge and its reversal lose each other

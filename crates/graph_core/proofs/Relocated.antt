@@ -19,14 +19,14 @@ use Rattle.graph_state.proofs.Maps.{put_here, put_else}
 use Rattle.graph_state.proofs.Lists.{one}
 use Rattle.graph_state.proofs.Removed.{none_left}
 use Rattle.graph_state.proofs.Moved.{edge_moved, moved_is, lists_moved, live_moved, shows_moved, formed_moved}
-use Rattle.graph_lists.specs.Named.{Lists, Named, head_at, place_at, list_at, shows_at, pushed, unlinked}
+use Rattle.graph_lists.specs.Named.{Lists, Named, head_at, hook_at, list_at, shows_at, pushed, unlinked}
 use Rattle.graph_lists.proofs.Numbers.{look_each}
 use Rattle.graph_core.specs.declared.cell.Heads.{Heads}
 use Rattle.graph_core.specs.declared.cell.EdgeCell.{EdgeCell}
 use Rattle.graph_core.specs.Kept.{NodeCells, EdgeCells, IsEdgeCell, IsEdge, top_heads, IsKept}
 use Rattle.graph_core.specs.Pairs.{Unpairs}
 use Rattle.graph_core.specs.Moves.{MovesDarts}
-use Rattle.graph_core.proofs.CellPut.{got_here, got_else, as_many, places_stay}
+use Rattle.graph_core.proofs.CellPut.{got_here, got_else, as_many, hooks_stay}
 use Rattle.graph_core.proofs.Kept.{edge_cell, ends_are, from_listed, to_listed}
 use Rattle.graph_core.proofs.Names.{pushed_list, taken}
 use Rattle.graph_core.proofs.Nodes.{node_kept}
@@ -92,7 +92,7 @@ module _ (s : GraphState) (t : Lists) (top : Option Heads) (p : NodeCells) (q : 
         let cells_len = as_many q q' e c moved_cell at cells in
         record {
           heads = λ l. ap (λ n. head_at n l) d.named ∙ k.heads l;
-          places = λ x. ap (λ n. place_at n x) d.named ∙ k.places x ∙ places_stay q q' e c moved_cell at cells p refl refl refl x;
+          hooks = λ x. ap (λ n. hook_at n x) d.named ∙ k.hooks x ∙ hooks_stay q q' e c moved_cell at cells p refl refl refl x;
           lists = lists_are;
           shown = λ x i. ap (λ n. shows_at n x) d.named ∙ k.shown x (live_moved s k.formed e v w here x i) ∙ sym (shows_moved s k.formed e v w here seen shown x);
           loose = ap (λ (n : Named). n.loose) d.named ∙ both_taken e t.named.loose k.loose;

@@ -12,11 +12,11 @@ use Rattle.graph_state.specs.Names.{Has, shows, IsLive}
 use Rattle.graph_state.proofs.Same.{nat_tells}
 use Rattle.graph_state.proofs.Maps.{put_here, put_else}
 use Rattle.graph_state.proofs.Marked.{with_marks, lists_stay, live_stays, formed_marks, mark_here, mark_else}
-use Rattle.graph_lists.specs.Named.{Lists, head_at, place_at, list_at, shows_at, SameRoom}
+use Rattle.graph_lists.specs.Named.{Lists, head_at, hook_at, list_at, shows_at, SameRoom}
 use Rattle.graph_core.specs.declared.cell.Heads.{Heads}
 use Rattle.graph_core.specs.declared.cell.NodeCell.{NodeCell}
 use Rattle.graph_core.specs.declared.cell.EdgeCell.{EdgeCell}
-use Rattle.graph_core.specs.Kept.{NodeCells, EdgeCells, heads_of, place_of, end_place, IsNode, IsEdge, top_heads, IsKept}
+use Rattle.graph_core.specs.Kept.{NodeCells, EdgeCells, heads_of, hook_of, end_hook, IsNode, IsEdge, top_heads, IsKept}
 use Rattle.graph_core.specs.Marks.{IsSame}
 
 -- a cell with another mark
@@ -54,7 +54,7 @@ part_stays : {C X : Type 0} (f : C → X) (g : C → C) → ((c : C) → f (g c)
 part_stays f g alike None = refl
 part_stays f g alike (Some c) = ap Some (sym (alike c))
 
-end_stays : (back b : Bool) (c : EdgeCell) → end_place back (remark_edge b c) ≡ end_place back c
+end_stays : (back b : Bool) (c : EdgeCell) → end_hook back (remark_edge b c) ≡ end_hook back c
 end_stays true b c = refl
 end_stays false b c = refl
 
@@ -86,16 +86,16 @@ module _ (s : GraphState) (t : Lists) (top : Option Heads) (p : NodeCells) (q : 
     heads_stay (Out v) = part_stays (λ (c : NodeCell). c.outs) (remark_node (set.contains vs v)) (λ c. refl) (map.get p v) ∙ ap (option_map (λ (c : NodeCell). c.outs)) (sym (nodes v))
     heads_stay (In v) = part_stays (λ (c : NodeCell). c.ins) (remark_node (set.contains vs v)) (λ c. refl) (map.get p v) ∙ ap (option_map (λ (c : NodeCell). c.ins)) (sym (nodes v))
 
-    places_stay : (x : Element) → place_of p q x ≡ place_of p' q' x
-    places_stay (Node v) = part_stays (λ (c : NodeCell). c.place) (remark_node (set.contains vs v)) (λ c. refl) (map.get p v) ∙ ap (option_map (λ (c : NodeCell). c.place)) (sym (nodes v))
-    places_stay (Edge e) = part_stays (λ (c : EdgeCell). c.place) (remark_edge (set.contains es e)) (λ c. refl) (map.get q e) ∙ ap (option_map (λ (c : EdgeCell). c.place)) (sym (edges e))
-    places_stay (End d) = part_stays (end_place d.back) (remark_edge (set.contains es d.edge)) (end_stays d.back (set.contains es d.edge)) (map.get q d.edge) ∙ ap (option_map (end_place d.back)) (sym (edges d.edge))
+    hooks_stay : (x : Element) → hook_of p q x ≡ hook_of p' q' x
+    hooks_stay (Node v) = part_stays (λ (c : NodeCell). c.hook) (remark_node (set.contains vs v)) (λ c. refl) (map.get p v) ∙ ap (option_map (λ (c : NodeCell). c.hook)) (sym (nodes v))
+    hooks_stay (Edge e) = part_stays (λ (c : EdgeCell). c.hook) (remark_edge (set.contains es e)) (λ c. refl) (map.get q e) ∙ ap (option_map (λ (c : EdgeCell). c.hook)) (sym (edges e))
+    hooks_stay (End d) = part_stays (end_hook d.back) (remark_edge (set.contains es d.edge)) (end_stays d.back (set.contains es d.edge)) (map.get q d.edge) ∙ ap (option_map (end_hook d.back)) (sym (edges d.edge))
 
     pub kept_remarked : (map.len p' ≡ map.len p) × (map.len q' ≡ map.len q) → ((v : ℕ) → set.contains vs v ≡ true → Has v s.nodes) → ((e : ℕ) → set.contains es e ≡ true → Has e s.edges)
         → ((x : Element) → IsLive s x → shows_at u.named x ≡ shows (with_marks s vs es) x) → IsKept (with_marks s vs es) u top p' q'
     kept_remarked lens in_nodes in_edges shown = record {
       heads = λ l. ap (λ hs. head_at (record u.named { heads = hs }) l) same.heads ∙ k.heads l ∙ heads_stay l;
-      places = λ x. ap (λ ps. place_at (record u.named { places = ps }) x) same.places ∙ k.places x ∙ places_stay x;
+      hooks = λ x. ap (λ ps. hook_at (record u.named { hooks = ps }) x) same.hooks ∙ k.hooks x ∙ hooks_stay x;
       lists = λ l. ap (λ ls. list_at (record u.named { lists = ls }) l) same.lists ∙ k.lists l ∙ sym (lists_stay s vs es l);
       shown = λ x i. shown x (live_stays s vs es x i);
       loose = same.loose ∙ k.loose;

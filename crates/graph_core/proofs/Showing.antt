@@ -13,33 +13,33 @@ use Rattle.graph_state.specs.State.{GraphState, front, back, source, ends_of, sh
 use Rattle.graph_state.specs.Names.{Has, number, back_row}
 use Rattle.graph_state.proofs.Has.{has_map, has_mapped, has_none}
 use Rattle.graph_lists.specs.declared.token.ListHead.{ListHead}
-use Rattle.graph_lists.specs.Named.{Lists, Named, head_at, place_at, list_at}
+use Rattle.graph_lists.specs.Named.{Lists, Named, head_at, hook_at, list_at}
 use Rattle.graph_core.specs.declared.cell.Heads.{Heads}
 use Rattle.graph_core.specs.declared.cell.NodeCell.{NodeCell}
 use Rattle.graph_core.specs.declared.cell.EdgeCell.{EdgeCell}
-use Rattle.graph_core.specs.Kept.{NodeCells, end_place, IsEdgeCell, IsKept}
+use Rattle.graph_core.specs.Kept.{NodeCells, end_hook, IsEdgeCell, IsKept}
 use Rattle.graph_core.specs.Marks.{IsSame, MarksParts, MarksIf, HasParts, Fits, IsToken, IsNodeToken, IsTokenIn, HasTokens, CanShow, ShowsParts}
 use Rattle.graph_core.specs.NodeMarks.{CanTurnAll}
-use Rattle.graph_core.proofs.Kept.{node_cell, has_node, edge_cell, has_edge, front_place, out_head, in_head, from_listed, to_listed, ends_are}
+use Rattle.graph_core.proofs.Kept.{node_cell, has_node, edge_cell, has_edge, front_hook, out_head, in_head, from_listed, to_listed, ends_are}
 use Rattle.graph_core.proofs.Remarked.{remark_node, AreRemarked}
 use Rattle.graph_core.proofs.Hiding.{has_parts}
 
--- lists and places that are as before have the same tokens
+-- lists and hooks that are as before have the same tokens
 module _ (n m : Named) (same : IsSame n m) where
   pub same_list_at : (l : ListName) → list_at m l ≡ list_at n l
   same_list_at l = ap (λ ls. list_at (record n { lists = ls }) l) same.lists
 
-  pub same_place_at : (x : Element) → place_at m x ≡ place_at n x
-  same_place_at x = ap (λ ps. place_at (record n { places = ps }) x) same.places
+  pub same_hook_at : (x : Element) → hook_at m x ≡ hook_at n x
+  same_hook_at x = ap (λ ps. hook_at (record n { hooks = ps }) x) same.hooks
 
   pub same_head_at : (l : ListName) → head_at m l ≡ head_at n l
   same_head_at l = ap (λ hs. head_at (record n { heads = hs }) l) same.heads
 
   edge_token_stays : (q : Contents EdgeCell) (l : ListName) (x : Element) → IsToken n q l x → IsToken m q l x
-  edge_token_stays q l x t = record { cell = t.cell; live = t.live; place = same_place_at x ∙ t.place; first = same_place_at (End (front (number x))) ∙ t.first; fits = t.fits }
+  edge_token_stays q l x t = record { cell = t.cell; live = t.live; hook = same_hook_at x ∙ t.hook; first = same_hook_at (End (front (number x))) ∙ t.first; fits = t.fits }
 
   token_stays : (p : Contents NodeCell) (q : Contents EdgeCell) (l : ListName) (x : Element) → IsTokenIn n p q l x → IsTokenIn m p q l x
-  token_stays p q Nodes x t = record { cell = t.cell; live = t.live; place = same_place_at x ∙ t.place; fits = t.fits }
+  token_stays p q Nodes x t = record { cell = t.cell; live = t.live; hook = same_hook_at x ∙ t.hook; fits = t.fits }
   token_stays p q Edges x t = edge_token_stays q Edges x t
   token_stays p q (Out v) x t = edge_token_stays q (Out v) x t
   token_stays p q (In v) x t = edge_token_stays q (In v) x t
@@ -49,9 +49,9 @@ module _ (n m : Named) (same : IsSame n m) where
 
   parts_stay : (e : ℕ) (c : EdgeCell) (edges from row : ListName) → HasParts n e c edges from row → HasParts m e c edges from row
   parts_stay e c edges from row h = record {
-    place = same_place_at (Edge e) ∙ h.place;
-    first = same_place_at (End (front e)) ∙ h.first;
-    second = same_place_at (End (back e)) ∙ h.second;
+    hook = same_hook_at (Edge e) ∙ h.hook;
+    first = same_hook_at (End (front e)) ∙ h.first;
+    second = same_hook_at (End (back e)) ∙ h.second;
     edge_in = subst (Has (Edge e)) (sym (same_list_at edges)) h.edge_in;
     first_in = subst (Has (End (front e))) (sym (same_list_at from)) h.first_in;
     second_in = subst (Has (End (back e))) (sym (same_list_at row)) h.second_in;
@@ -79,12 +79,12 @@ module _ (s : GraphState) (t : Lists) (top : Option Heads) (p : NodeCells) (q : 
   edge_token : (i : ℕ) → Has i s.edges → IsToken t.named q Edges (Edge i)
   edge_token i has =
       let c = has_edge s t top p q.live k i has in
-      record { cell = c.0; live = c.1; place = k.places (Edge i) ∙ ap (option_map (λ (c : EdgeCell). c.place)) c.1; first = front_place s t top p q.live k i c.0 c.1; fits = tt }
+      record { cell = c.0; live = c.1; hook = k.hooks (Edge i) ∙ ap (option_map (λ (c : EdgeCell). c.hook)) c.1; first = front_hook s t top p q.live k i c.0 c.1; fits = tt }
 
   dart_token : (l : ListName) (d : Dart) → Has d.edge s.edges → Fits l (End d) → IsToken t.named q l (End d)
   dart_token l d has fits =
       let c = has_edge s t top p q.live k d.edge has in
-      record { cell = c.0; live = c.1; place = k.places (End d) ∙ ap (option_map (end_place d.back)) c.1; first = front_place s t top p q.live k d.edge c.0 c.1; fits = fits }
+      record { cell = c.0; live = c.1; hook = k.hooks (End d) ∙ ap (option_map (end_hook d.back)) c.1; first = front_hook s t top p q.live k d.edge c.0 c.1; fits = fits }
 
   -- without the heads there are no nodes and no edges
   pub some_nodes : (v : ℕ) → Has v s.nodes → top ≡ None → ⊥
@@ -101,7 +101,7 @@ module _ (s : GraphState) (t : Lists) (top : Option Heads) (p : NodeCells) (q : 
     node_token : (v : ℕ) → Has v s.nodes → IsNodeToken t.named p' (Node v)
     node_token v has =
         let c = has_node s t top p q.live k v has in
-        record { cell = remark_node (set.contains vs v) c.0; live = remarked_at v c.0 c.1; place = k.places (Node v) ∙ ap (option_map (λ (c : NodeCell). c.place)) c.1; fits = refl }
+        record { cell = remark_node (set.contains vs v) c.0; live = remarked_at v c.0 c.1; hook = k.hooks (Node v) ∙ ap (option_map (λ (c : NodeCell). c.hook)) c.1; fits = refl }
 
     pub all_tokens : (l : ListName) → HasTokens t.named p' q l
     all_tokens Nodes x i =

@@ -23,7 +23,7 @@ use Rattle.graph_core.specs.declared.cell.EdgeCell.{EdgeCell}
 use Rattle.graph_core.specs.Kept.{NodeCells, EdgeCells, IsKept}
 use Rattle.graph_core.specs.Marks.{IsSame}
 use Rattle.graph_core.specs.NodeMarks.{is_bare, is_free, turns, CanTurnAll, CanTurnNode, TurnsNode}
-use Rattle.graph_core.proofs.Kept.{node_cell, has_node, node_place, edge_cell, has_edge, out_head, in_head, stands, from_listed, to_listed, ends_are}
+use Rattle.graph_core.proofs.Kept.{node_cell, has_node, node_hook, edge_cell, has_edge, out_head, in_head, stands, from_listed, to_listed, ends_are}
 use Rattle.graph_core.proofs.Remarked.{remark_node, AreRemarked, edges_as_before, one_node, kept_remarked}
 use Rattle.graph_core.proofs.Hiding.{same_on}
 use Rattle.graph_core.proofs.Showing.{all_tokens, can_show}
@@ -142,7 +142,7 @@ module _ (s : GraphState) (t : Lists) (top : Option Heads) (p : NodeCells) (q : 
   pub can_turn_node : (top' : Heads) → top ≡ Some top' → (d : Bool) → d ≡ s.directed → CanTurnNode t.named p' q top' d v (remark_node (not b) c)
   can_turn_node top' is d ds = record {
     head = k.heads Nodes ∙ ap (option_map (λ (h : Heads). h.nodes)) is;
-    place = node_place s t top p q.live k v c at;
+    hook = node_hook s t top p q.live k v c at;
     node_in = stands s t top p q.live k (Node v) listed;
     outs = out_head s t top p q.live k v c at;
     ins = in_head s t top p q.live k v c at;

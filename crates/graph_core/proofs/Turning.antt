@@ -16,13 +16,13 @@ use Rattle.graph_state.proofs.Same.{nat_tells}
 use Rattle.graph_state.proofs.Maps.{put_here, put_else, len_kept}
 use Rattle.graph_state.proofs.Each.{has_or_not}
 use Rattle.graph_state.proofs.Turned.{element_twice, live_turned, live_reversed, reversed_lists, reversed_shows, reversed_ends, formed_reversed}
-use Rattle.graph_lists.specs.Named.{Lists, Named, head_at, place_at, list_at, shows_at, SameRoom}
+use Rattle.graph_lists.specs.Named.{Lists, Named, head_at, hook_at, list_at, shows_at, SameRoom}
 use Rattle.graph_lists.specs.Turned.{turned}
-use Rattle.graph_lists.proofs.Turned.{heads_turned, places_turned, lists_turned, shown_turned}
+use Rattle.graph_lists.proofs.Turned.{heads_turned, hooks_turned, lists_turned, shown_turned}
 use Rattle.graph_core.specs.declared.cell.Heads.{Heads}
 use Rattle.graph_core.specs.declared.cell.NodeCell.{NodeCell}
 use Rattle.graph_core.specs.declared.cell.EdgeCell.{EdgeCell}
-use Rattle.graph_core.specs.Kept.{NodeCells, EdgeCells, heads_of, place_of, end_place, IsNode, IsEdge, top_heads, IsKept}
+use Rattle.graph_core.specs.Kept.{NodeCells, EdgeCells, heads_of, hook_of, end_hook, IsNode, IsEdge, top_heads, IsKept}
 use Rattle.graph_core.specs.Turns.{node_turned, edge_turned, Fills, Changes, ChangesAt, HasCells}
 use Rattle.graph_core.proofs.Kept.{node_cell, edge_cell, ends_are}
 use Rattle.graph_core.specs.Members.{Walks}
@@ -135,18 +135,18 @@ ins_of : (d : Bool) (o : Option NodeCell) → option_map (λ (c : NodeCell). con
 ins_of d None = refl
 ins_of d (Some c) = refl
 
-node_place_of : (d : Bool) (o : Option NodeCell) → option_map (λ (c : NodeCell). c.place) o ≡ option_map (λ (c : NodeCell). c.place) (option_map (node_turned d) o)
-node_place_of d None = refl
-node_place_of d (Some c) = refl
+node_hook_of : (d : Bool) (o : Option NodeCell) → option_map (λ (c : NodeCell). c.hook) o ≡ option_map (λ (c : NodeCell). c.hook) (option_map (node_turned d) o)
+node_hook_of d None = refl
+node_hook_of d (Some c) = refl
 
-edge_place_of : (o : Option EdgeCell) → option_map (λ (c : EdgeCell). c.place) o ≡ option_map (λ (c : EdgeCell). c.place) (option_map edge_turned o)
-edge_place_of None = refl
-edge_place_of (Some c) = refl
+edge_hook_of : (o : Option EdgeCell) → option_map (λ (c : EdgeCell). c.hook) o ≡ option_map (λ (c : EdgeCell). c.hook) (option_map edge_turned o)
+edge_hook_of None = refl
+edge_hook_of (Some c) = refl
 
-end_place_of : (b : Bool) (o : Option EdgeCell) → option_map (end_place (not b)) o ≡ option_map (end_place b) (option_map edge_turned o)
-end_place_of b None = refl
-end_place_of true (Some c) = refl
-end_place_of false (Some c) = refl
+end_hook_of : (b : Bool) (o : Option EdgeCell) → option_map (end_hook (not b)) o ≡ option_map (end_hook b) (option_map edge_turned o)
+end_hook_of b None = refl
+end_hook_of true (Some c) = refl
+end_hook_of false (Some c) = refl
 
 outs_either : (d : Bool) (top : Option Heads) (p : NodeCells) (v : ℕ) → heads_of top p (cond d (In v) (Out v)) ≡ option_map (λ (c : NodeCell). cond d c.ins c.outs) (map.get p v)
 outs_either true top p v = refl
@@ -165,10 +165,10 @@ module _ (s : GraphState) (t : Lists) (top : Option Heads) (p : NodeCells) (q : 
   heads_other (Out v) = outs_either s.directed top p v ∙ outs_of s.directed (map.get p v) ∙ ap (option_map (λ (c : NodeCell). c.outs)) (sym (nodes v))
   heads_other (In v) = ins_either s.directed top p v ∙ ins_of s.directed (map.get p v) ∙ ap (option_map (λ (c : NodeCell). c.ins)) (sym (nodes v))
 
-  places_other : (x : Element) → place_of p q (turned_element x) ≡ place_of p' q' x
-  places_other (Node v) = node_place_of s.directed (map.get p v) ∙ ap (option_map (λ (c : NodeCell). c.place)) (sym (nodes v))
-  places_other (Edge e) = edge_place_of (map.get q e) ∙ ap (option_map (λ (c : EdgeCell). c.place)) (sym (edges e))
-  places_other (End d) = end_place_of d.back (map.get q d.edge) ∙ ap (option_map (end_place d.back)) (sym (edges d.edge))
+  hooks_other : (x : Element) → hook_of p q (turned_element x) ≡ hook_of p' q' x
+  hooks_other (Node v) = node_hook_of s.directed (map.get p v) ∙ ap (option_map (λ (c : NodeCell). c.hook)) (sym (nodes v))
+  hooks_other (Edge e) = edge_hook_of (map.get q e) ∙ ap (option_map (λ (c : EdgeCell). c.hook)) (sym (edges e))
+  hooks_other (End d) = end_hook_of d.back (map.get q d.edge) ∙ ap (option_map (end_hook d.back)) (sym (edges d.edge))
 
   node_other : (v : ℕ) (o : Option NodeCell) → IsNode s v o → IsNode (all_reversed s) v (option_map (node_turned s.directed) o)
   unfolding all_reversed
@@ -197,7 +197,7 @@ module _ (s : GraphState) (t : Lists) (top : Option Heads) (p : NodeCells) (q : 
   unfolding all_reversed
   kept_reversed plen qlen room = record {
     heads = λ l. ap (λ n. head_at n l) named ∙ heads_turned s.directed t.named l ∙ k.heads (turned_list s.directed l) ∙ heads_other l;
-    places = λ x. ap (λ n. place_at n x) named ∙ places_turned s.directed t.named x ∙ k.places (turned_element x) ∙ places_other x;
+    hooks = λ x. ap (λ n. hook_at n x) named ∙ hooks_turned s.directed t.named x ∙ k.hooks (turned_element x) ∙ hooks_other x;
     lists = λ l. ap (λ n. list_at n l) named ∙ lists_turned s.directed t.named l ∙ ap (list.map turned_element) (k.lists (turned_list s.directed l)) ∙ sym (reversed_lists s k.formed l);
     shown = shown_other;
     loose = ap (λ (n : Named). n.loose) named ∙ ap (list.map turned_element) k.loose;

@@ -16,10 +16,10 @@ use Rattle.graph_core.specs.declared.cell.Heads.{Heads}
 use Rattle.graph_core.specs.Marks.{HasTokens}
 use Rattle.graph_core.specs.Turns.{Fills}
 
--- tokens and marks are as before, and nothing is without a place
+-- tokens and marks are as before, and nothing is without a hook
 pub record KeepsRest (n m : Named) : Type 0 where
   pub heads : m.heads ≡ n.heads
-  pub places : m.places ≡ n.places
+  pub hooks : m.hooks ≡ n.hooks
   pub shown : m.shown ≡ n.shown
   pub loose : m.loose ≡ []
 

@@ -13,8 +13,8 @@ use Rattle.graph_state.specs.State.{GraphState}
 use Rattle.graph_state.specs.Names.{Has, list_of, shows, IsLive}
 use Rattle.graph_state.specs.Formed.{IsFormed}
 use Rattle.graph_lists.specs.declared.token.ListHead.{ListHead}
-use Rattle.graph_lists.specs.declared.token.Place.{Place}
-use Rattle.graph_lists.specs.Named.{Lists, head_at, place_at, list_at, shows_at}
+use Rattle.graph_lists.specs.declared.token.Hook.{Hook}
+use Rattle.graph_lists.specs.Named.{Lists, head_at, hook_at, list_at, shows_at}
 use Rattle.graph_core.specs.declared.cell.Heads.{Heads}
 use Rattle.graph_core.specs.declared.cell.NodeCell.{NodeCell}
 use Rattle.graph_core.specs.declared.cell.EdgeCell.{EdgeCell}
@@ -37,13 +37,13 @@ heads_of top p Edges = option_map (λ t. t.edges) top
 heads_of top p (Out v) = option_map (λ c. c.outs) (map.get p v)
 heads_of top p (In v) = option_map (λ c. c.ins) (map.get p v)
 
-abbrev pub end_place : Bool → EdgeCell → Place
-end_place b c = cond b c.back c.front
+abbrev pub end_hook : Bool → EdgeCell → Hook
+end_hook b c = cond b c.back c.front
 
-abbrev pub place_of : NodeCells → EdgeCells → Element → Option Place
-place_of p q (Node v) = option_map (λ c. c.place) (map.get p v)
-place_of p q (Edge e) = option_map (λ c. c.place) (map.get q e)
-place_of p q (End d) = option_map (end_place d.back) (map.get q d.edge)
+abbrev pub hook_of : NodeCells → EdgeCells → Element → Option Hook
+hook_of p q (Node v) = option_map (λ c. c.hook) (map.get p v)
+hook_of p q (Edge e) = option_map (λ c. c.hook) (map.get q e)
+hook_of p q (End d) = option_map (end_hook d.back) (map.get q d.edge)
 
 -- the cell is what the state says of the node, or of the edge
 pub record IsNodeCell (s : GraphState) (v : ℕ) (c : NodeCell) : Type 0 where
@@ -79,7 +79,7 @@ Rises (x ∷ xs) = ((y : ℕ) → Has y xs → x < y) × Rises xs
 pub record IsKept (s : GraphState) (t : Lists) (top : Option Heads) (p : NodeCells)
     (q : EdgeCells) : Type 0 where
   pub heads : (l : ListName) → head_at t.named l ≡ heads_of top p l
-  pub places : (x : Element) → place_at t.named x ≡ place_of p q x
+  pub hooks : (x : Element) → hook_at t.named x ≡ hook_of p q x
   pub lists : (l : ListName) → list_at t.named l ≡ list_of s l
   pub shown : (x : Element) → IsLive s x → shows_at t.named x ≡ shows s x
   pub loose : t.named.loose ≡ []

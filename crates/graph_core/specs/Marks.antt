@@ -9,17 +9,17 @@ use Rattle.graph_state.specs.declared.name.Element.TheVariants.{Node, Edge, End}
 use Rattle.graph_state.specs.State.{front, back}
 use Rattle.graph_state.specs.Names.{Has, number, last_of, back_row}
 use Rattle.graph_lists.specs.declared.token.ListHead.{ListHead}
-use Rattle.graph_lists.specs.declared.token.Place.{Place}
-use Rattle.graph_lists.specs.Named.{Named, head_at, place_at, list_at, shows_at}
+use Rattle.graph_lists.specs.declared.token.Hook.{Hook}
+use Rattle.graph_lists.specs.Named.{Named, head_at, hook_at, list_at, shows_at}
 use Rattle.graph_lists.specs.Heads.{IsMemberOf, Finds}
 use Rattle.graph_core.specs.declared.cell.NodeCell.{NodeCell}
 use Rattle.graph_core.specs.declared.cell.EdgeCell.{EdgeCell}
-use Rattle.graph_core.specs.Kept.{end_place}
+use Rattle.graph_core.specs.Kept.{end_hook}
 
 -- lists, tokens and what stands nowhere are as before
 pub record IsSame (n m : Named) : Type 0 where
   pub heads : m.heads ≡ n.heads
-  pub places : m.places ≡ n.places
+  pub hooks : m.hooks ≡ n.hooks
   pub lists : m.lists ≡ n.lists
   pub loose : m.loose ≡ n.loose
 
@@ -52,20 +52,20 @@ abbrev pub MarksIf : Bool → Named → Named → ℕ → Bool → Type 0
 MarksIf true n m e b = MarksParts n m e b
 MarksIf false n m e b = IsSame n m × ((y : Element) → shows_at m y ≡ shows_at n y)
 
--- the cell has the places of the edge and its darts, which stand in lists
+-- the cell has the hooks of the edge and its darts, which stand in lists
 pub record HasParts (n : Named) (e : ℕ) (c : EdgeCell) (edges from row : ListName) : Type 0 where
-  pub place : place_at n (Edge e) ≡ Some c.place
-  pub first : place_at n (End (front e)) ≡ Some c.front
-  pub second : place_at n (End (back e)) ≡ Some c.back
+  pub hook : hook_at n (Edge e) ≡ Some c.hook
+  pub first : hook_at n (End (front e)) ≡ Some c.front
+  pub second : hook_at n (End (back e)) ≡ Some c.back
   pub edge_in : Has (Edge e) (list_at n edges)
   pub first_in : Has (End (front e)) (list_at n from)
   pub second_in : Has (End (back e)) (list_at n row)
 
--- the place that a cell has for an element
-abbrev pub token : EdgeCell → Element → Place
-token c (Node v) = c.place
-token c (Edge e) = c.place
-token c (End d) = end_place d.back c
+-- the hook that a cell has for an element
+abbrev pub token : EdgeCell → Element → Hook
+token c (Node v) = c.hook
+token c (Edge e) = c.hook
+token c (End d) = end_hook d.back c
 
 -- only edges stand in the edge list, and only darts in those of a node
 abbrev pub Fits : ListName → Element → Type 0
@@ -83,15 +83,15 @@ Fits (In v) (End d) = Unit {0}
 pub record IsToken (n : Named) (q : Contents EdgeCell) (l : ListName) (x : Element) : Type 0 where
   pub cell : EdgeCell
   pub live : map.get q.live (number x) ≡ Some cell
-  pub place : place_at n x ≡ Some (token cell x)
-  pub first : place_at n (End (front (number x))) ≡ Some cell.front
+  pub hook : hook_at n x ≡ Some (token cell x)
+  pub first : hook_at n (End (front (number x))) ≡ Some cell.front
   pub fits : Fits l x
 
 -- only nodes stand in the node list
 pub record IsNodeToken (n : Named) (p : Contents NodeCell) (x : Element) : Type 0 where
   pub cell : NodeCell
   pub live : map.get p.live (number x) ≡ Some cell
-  pub place : place_at n x ≡ Some cell.place
+  pub hook : hook_at n x ≡ Some cell.hook
   pub fits : x ≡ Node (number x)
 
 abbrev pub IsTokenIn : Named → Contents NodeCell → Contents EdgeCell → ListName → Element → Type 0
@@ -100,7 +100,7 @@ IsTokenIn n p q Edges x = IsToken n q Edges x
 IsTokenIn n p q (Out v) x = IsToken n q (Out v) x
 IsTokenIn n p q (In v) x = IsToken n q (In v) x
 
--- the cells have the places of all that stands in the list
+-- the cells have the hooks of all that stands in the list
 abbrev pub HasTokens : Named → Contents NodeCell → Contents EdgeCell → ListName → Type 0
 HasTokens n p q l = (x : Element) → Has x (list_at n l) → IsTokenIn n p q l x
 
@@ -120,7 +120,7 @@ pub record Passes (n : Named) (l : ListName) (x : Element) (turn : ℕ) (at : Op
   pub counted : length between ≡ turn
   pub finds : Finds n false at (last_of before)
 
--- what there is to show an edge by: the heads of its lists, its places, and those of all that
+-- what there is to show an edge by: the heads of its lists, its hooks, and those of all that
 -- stands in lists
 pub record CanShow (n : Named) (p : Contents NodeCell) (q : Contents EdgeCell) (edges : ListHead)
     (directed : Bool) (e : ℕ) (c : EdgeCell) : Type 0 where

@@ -8,7 +8,7 @@ use Rattle.graph_state.specs.declared.name.Element.{Element}
 use Rattle.graph_state.specs.declared.name.Element.TheVariants.{Node}
 use Rattle.graph_state.specs.Names.{Has, number, first_of}
 use Rattle.graph_lists.specs.declared.token.ListHead.{ListHead}
-use Rattle.graph_lists.specs.Named.{Named, head_at, place_at, list_at, shows_at}
+use Rattle.graph_lists.specs.Named.{Named, head_at, hook_at, list_at, shows_at}
 use Rattle.graph_lists.specs.Heads.{Finds}
 use Rattle.graph_core.specs.declared.cell.Heads.{Heads}
 use Rattle.graph_core.specs.declared.cell.NodeCell.{NodeCell}
@@ -66,7 +66,7 @@ pub record Passed (P : List Element → Type 0) (n : Named) (l : ListName) (turn
 pub record CanTurnNode (n : Named) (p : Contents NodeCell) (q : Contents EdgeCell) (top : Heads)
     (directed : Bool) (v : ℕ) (c : NodeCell) : Type 0 where
   pub head : head_at n Nodes ≡ Some top.nodes
-  pub place : place_at n (Node v) ≡ Some c.place
+  pub hook : hook_at n (Node v) ≡ Some c.hook
   pub node_in : Has (Node v) (list_at n Nodes)
   pub outs : head_at n (Out v) ≡ Some c.outs
   pub ins : head_at n (In v) ≡ Some c.ins

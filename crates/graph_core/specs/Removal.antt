@@ -7,7 +7,7 @@ use Rattle.graph_state.specs.declared.name.Element.TheVariants.{Node}
 use Rattle.graph_state.specs.State.{GraphState}
 use Rattle.graph_state.specs.Names.{Has, number, same_element}
 use Rattle.graph_state.specs.Edits.{has_end}
-use Rattle.graph_lists.specs.Named.{Lists, Named, head_at, place_at, list_at, unlisted}
+use Rattle.graph_lists.specs.Named.{Lists, Named, head_at, hook_at, list_at, unlisted}
 use Rattle.graph_lists.specs.Heads.{IsMemberOf}
 use Rattle.graph_core.specs.declared.cell.NodeCell.{NodeCell}
 
@@ -19,16 +19,16 @@ is_it x y = same_element y x
 pub record Drops (t u : Lists) (p : Element → Bool) (members : ℕ) : Type 0 where
   pub heads : u.named.heads ≡ t.named.heads
   pub lists : (l : ListName) → list_at u.named l ≡ filter (λ x. not (p x)) (list_at t.named l)
-  pub gone : (x : Element) → p x ≡ true → place_at u.named x ≡ None
-  pub places : (x : Element) → p x ≡ false → place_at u.named x ≡ place_at t.named x
+  pub gone : (x : Element) → p x ≡ true → hook_at u.named x ≡ None
+  pub hooks : (x : Element) → p x ≡ false → hook_at u.named x ≡ hook_at t.named x
   pub shown : u.named.shown ≡ t.named.shown
   pub loose : u.named.loose ≡ filter (λ x. not (p x)) t.named.loose
   pub same : u.heads ≡ t.heads
   pub fewer : u.members + members ≡ t.members
 
--- the cell has the places of the node and of its lists, in which nothing stands
+-- the cell has the hooks of the node and of its lists, in which nothing stands
 pub record HasNodeParts (n : Named) (v : ℕ) (c : NodeCell) : Type 0 where
-  pub place : place_at n (Node v) ≡ Some c.place
+  pub hook : hook_at n (Node v) ≡ Some c.hook
   pub there : Has (Node v) (list_at n Nodes)
   pub outs : head_at n (Out v) ≡ Some c.outs
   pub ins : head_at n (In v) ≡ Some c.ins

@@ -1,6 +1,6 @@
 //! What is kept for a node, and for an edge.
 
-use graph_lists::{ListHead, Place};
+use graph_lists::{Hook, ListHead};
 use leda_base::Row;
 
 /// The heads of the node list and of the edge list.
@@ -15,7 +15,7 @@ pub struct Heads {
 pub struct NodeCell {
     pub label: Row<u8>,
     pub is_hidden: bool,
-    pub place: Place,
+    pub hook: Hook,
     pub outs: ListHead,
     pub ins: ListHead,
 }
@@ -28,7 +28,7 @@ pub struct EdgeCell {
     pub to: u32,
     pub reversal: Option<u32>,
     pub is_hidden: bool,
-    pub place: Place,
-    pub front: Place,
-    pub back: Place,
+    pub hook: Hook,
+    pub front: Hook,
+    pub back: Hook,
 }

@@ -13,13 +13,13 @@ use Rattle.graph_state.specs.Beside.{beside}
 use Rattle.graph_state.proofs.Has.{truth, not_both, none_some, has_last, map_join, has_filter, filter_has, filter_join, filter_one, filter_no, filter_same, filter_twice}
 use Rattle.graph_state.proofs.Same.{list_tells, element_tells, without_has, without_out, behind_out, before_out, behind_has, before_has, filter_behind, filter_before}
 use Rattle.graph_lists.specs.declared.token.ListHead.{ListHead}
-use Rattle.graph_lists.specs.declared.token.Place.{Place}
-use Rattle.graph_lists.specs.Named.{Named, head_at, place_at, list_at, shows_at, seen_list, pick_member, pushed, unlinked, marked}
+use Rattle.graph_lists.specs.declared.token.Hook.{Hook}
+use Rattle.graph_lists.specs.Named.{Named, head_at, hook_at, list_at, shows_at, seen_list, pick_member, pushed, unlinked, marked}
 use Rattle.graph_lists.specs.Table.{each}
 use Rattle.graph_lists.specs.Steps.{Pushes, PushesIf, member_beside, Unlinks, UnlinksIf}
-use Rattle.graph_lists.specs.Tied.{member, AreRows, IsRow, AreLoose, IsOut, IsPlaced, AreTied}
+use Rattle.graph_lists.specs.Tied.{member, AreRows, IsRow, AreLoose, IsOut, IsHooked, AreTied}
 use Rattle.graph_lists.proofs.Numbers.{Separates, map_without, map_behind, map_before, look_new, look_else, look_each}
-use Rattle.graph_lists.proofs.Rows.{member_is, ring_is, is_head, linked_in, rows_set, rows_as, members_same, some_head, linked_full, linked_shown, one_list, told, placed_in}
+use Rattle.graph_lists.proofs.Rows.{member_is, ring_is, is_head, linked_in, rows_set, rows_as, members_same, some_head, linked_full, linked_shown, one_list, told, hooked_in}
 use Rattle.graph_lists.proofs.Looses.{loose_linked, loose_unlinked, loose_as}
 
 pub true_false : true ≡ false → ⊥
@@ -81,21 +81,21 @@ OutFull v u false y = Has y u.loose
 abbrev half : Named → Named → Bool → ListName → List Element
 half v u b l = cond b (seen_list v true l) (list_at u l)
 
-module _ (v : Named) (r : RingLists) (k : AreTied v r) (x : Element) (w : Place) (place : place_at v x ≡ Some w) where
+module _ (v : Named) (r : RingLists) (k : AreTied v r) (x : Element) (w : Hook) (hook : hook_at v x ≡ Some w) where
   -- x comes to stand somewhere
   module _ (u : Named) (loose : u.loose ≡ without same_element x v.loose) where
     came : (y : Element) → Has y u.loose → Has y v.loose × (y ≡ x → ⊥)
     came y i = without_has same_element element_tells x y v.loose (subst (Has y) loose i)
 
     loose_full : (t : RingLists) → t.loose ≡ ring.without w.full r.loose → AreLoose v t (OutFull v u)
-    loose_full t e = loose_linked v r t (IsOut v) (OutFull v u) false x w k.members k.loose place e (λ b y. elim b as (λ b. OutFull v u b y → IsOut v b y × ((b ≡ false) × (y ≡ x) → ⊥)) [
+    loose_full t e = loose_linked v r t (IsOut v) (OutFull v u) false x w k.members k.loose hook e (λ b y. elim b as (λ b. OutFull v u b y → IsOut v b y × ((b ≡ false) × (y ≡ x) → ⊥)) [
       | true ↦ λ i. (i, λ p. true_false p.0)
       | false ↦ λ i. let c = came y i in (c.0, λ p. c.1 p.1)
     ])
 
     loose_both : (m t : RingLists) → m.tags ≡ r.tags → m.loose ≡ ring.without w.full r.loose → t.loose ≡ ring.without w.shown m.loose → shows_at v x ≡ true
         → AreLoose v t (λ b y. IsOut (record v { loose = u.loose }) b y)
-    loose_both m t tags e f sx = loose_linked v m t (OutFull v u) (IsOut (record v { loose = u.loose })) true x w (members_same v r m tags k.members) (loose_full m e) place f
+    loose_both m t tags e f sx = loose_linked v m t (OutFull v u) (IsOut (record v { loose = u.loose })) true x w (members_same v r m tags k.members) (loose_full m e) hook f
         (λ b y. elim b as (λ b. IsOut (record v { loose = u.loose }) b y → OutFull v u b y × ((b ≡ true) × (y ≡ x) → ⊥)) [
           | true ↦ λ i. elim i [
             | inl s ↦ (inl s, λ p. not_both (ap (shows_at v) p.1 ∙ sx) s)
@@ -122,7 +122,7 @@ module _ (v : Named) (r : RingLists) (k : AreTied v r) (x : Element) (w : Place)
     pushed_row : (b : Bool) (s : RingLists) (xs : List Element) (g : ℕ) → IsRow v s b l xs g → ring.ring s g ++ pick_member b w ∷ [] ≡ map (member v b) (xs ++ x ∷ [])
     pushed_row b s xs g i =
         ap (λ ys. ys ++ pick_member b w ∷ []) (ring_is v s b l xs g i)
-        ∙ ap (λ n. map (member v b) xs ++ n ∷ []) (sym (member_is v b x w place))
+        ∙ ap (λ n. map (member v b) xs ++ n ∷ []) (sym (member_is v b x w hook))
         ∙ sym (map_join (member v b) xs (x ∷ []))
 
     pushed_full : (m : RingLists) → Pushes r m h.full w.full → AreRows v m (half v (pushed l x v))
@@ -159,11 +159,11 @@ module _ (v : Named) (r : RingLists) (k : AreTied v r) (x : Element) (w : Place)
           | false ↦ refl
         ])
 
-    pushed_standing : (n : ListName) (y : Element) → Has y (list_at (pushed l x v) n) → IsPlaced v y
+    pushed_standing : (n : ListName) (y : Element) → Has y (list_at (pushed l x v) n) → IsHooked v y
     pushed_standing n y i = elim (list_tells n l) [
       | inl e ↦ elim (has_last y x (list_at v l) (subst (Has y) (ap (list_at (pushed l x v)) e.1 ∙ list_here) i)) [
         | inl j ↦ k.standing l y j
-        | inr f ↦ (w, ap (place_at v) f ∙ place)
+        | inr f ↦ (w, ap (hook_at v) f ∙ hook)
       ]
       | inr ne ↦ k.standing n y (subst (Has y) (list_else n ne.1) i)
     ]
@@ -179,7 +179,7 @@ module _ (v : Named) (r : RingLists) (k : AreTied v r) (x : Element) (w : Place)
     push_head m p = is_head v m true l (seen_list v true l) h.shown (pushed_full m p true l h there)
 
     pub push_loose : (m : RingLists) → Has x v.loose → Pushes r m h.full w.full → IsLoose m w.shown
-    push_loose m has p = loose_full (record v { loose = without same_element x v.loose }) refl m p.loose true x w place (inr has)
+    push_loose m has p = loose_full (record v { loose = without same_element x v.loose }) refl m p.loose true x w hook (inr has)
 
     pub tied_pushed : (m t : RingLists) (b : Bool) → b ≡ shows_at v x → Pushes r m h.full w.full → PushesIf b m t h.shown w.shown → AreTied (pushed l x v) t
     tied_pushed m t true s p q = record {
@@ -201,7 +201,7 @@ module _ (v : Named) (r : RingLists) (k : AreTied v r) (x : Element) (w : Place)
 
   -- it comes to stand beside y
   module _ (G : Element → Element → List Element → List Element) (F : ℕ → ℕ → List ℕ → List ℕ) (is : IsBeside G F)
-      (y : Element) (z : Place) (beside : place_at v y ≡ Some z) (l : ListName) (has : Has y (list_at v l)) (sy : shows_at v y ≡ true) (sx : shows_at v x ≡ true) where
+      (y : Element) (z : Hook) (beside : hook_at v y ≡ Some z) (l : ListName) (has : Has y (list_at v l)) (sy : shows_at v y ≡ true) (sx : shows_at v x ≡ true) where
     abbrev put : Named
     put = record v { lists = each (G y x) v.lists; loose = without same_element x v.loose }
 
@@ -215,8 +215,8 @@ module _ (v : Named) (r : RingLists) (k : AreTied v r) (x : Element) (w : Place)
     put_row b s g i =
         ap (F (pick_member b z) (pick_member b w)) (ring_is v s b l (seen_list v b l) g i)
         ∙ ap (λ n. F n (pick_member b w) (map (member v b) (seen_list v b l))) (sym (member_is v b y z beside))
-        ∙ ap (λ n. F (member v b y) n (map (member v b) (seen_list v b l))) (sym (member_is v b x w place))
-        ∙ is.maps (member v b) y x (seen_list v b l) (told v r k b y (seen_list v b l) (z, beside) (placed_in v r k b l))
+        ∙ ap (λ n. F (member v b y) n (map (member v b) (seen_list v b l))) (sym (member_is v b x w hook))
+        ∙ is.maps (member v b) y x (seen_list v b l) (told v r k b y (seen_list v b l) (z, beside) (hooked_in v r k b l))
 
     seen_put : seen_list put true l ≡ G y x (seen_list v true l)
     seen_put = ap (filter (shows_at v)) (list_put l) ∙ is.filters (shows_at v) y x (list_at v l) sy sx
@@ -248,10 +248,10 @@ module _ (v : Named) (r : RingLists) (k : AreTied v r) (x : Element) (w : Place)
             | false ↦ λ ne. refl
           ])
 
-    put_standing : (n : ListName) (i : Element) → Has i (list_at put n) → IsPlaced v i
+    put_standing : (n : ListName) (i : Element) → Has i (list_at put n) → IsHooked v i
     put_standing n i j = elim (is.has y x i (list_at v n) (subst (Has i) (list_put n) j)) [
       | inl a ↦ k.standing n i a
-      | inr e ↦ (w, ap (place_at v) e ∙ place)
+      | inr e ↦ (w, ap (hook_at v) e ∙ hook)
     ]
 
     -- y is linked in both rings at the two calls
@@ -262,7 +262,7 @@ module _ (v : Named) (r : RingLists) (k : AreTied v r) (x : Element) (w : Place)
     beside_seen m p = let h = some_head v r k l y has in (h.0.shown, put_linked m p h.0 h.1)
 
     pub put_loose : (m : RingLists) → Has x v.loose → m.loose ≡ ring.without w.full r.loose → IsLoose m w.shown
-    put_loose m has loose = loose_full put refl m loose true x w place (inr has)
+    put_loose m has loose = loose_full put refl m loose true x w hook (inr has)
 
     pub tied_put : (m t : RingLists) → Puts r m false → m.tags ≡ r.tags → m.loose ≡ ring.without w.full r.loose → Puts m t true → t.tags ≡ m.tags → t.loose ≡ ring.without w.shown m.loose → AreApart t → AreTied put t
     tied_put m t p tags loose p' tags' loose' apart =
@@ -287,25 +287,25 @@ module _ (v : Named) (r : RingLists) (k : AreTied v r) (x : Element) (w : Place)
     left_row : (b : Bool) (s : RingLists) (g : ℕ) → IsRow v s b l (seen_list v b l) g → ring.without (pick_member b w) (ring.ring s g) ≡ map (member v b) (without same_element x (seen_list v b l))
     left_row b s g i =
         ap (ring.without (pick_member b w)) (ring_is v s b l (seen_list v b l) g i)
-        ∙ ap (λ n. ring.without n (map (member v b) (seen_list v b l))) (sym (member_is v b x w place))
-        ∙ map_without same_element (member v b) x (seen_list v b l) (told v r k b x (seen_list v b l) (w, place) (placed_in v r k b l))
+        ∙ ap (λ n. ring.without n (map (member v b) (seen_list v b l))) (sym (member_is v b x w hook))
+        ∙ map_without same_element (member v b) x (seen_list v b l) (told v r k b x (seen_list v b l) (w, hook) (hooked_in v r k b l))
 
     out_full : (h : ListHead) → head_at v l ≡ Some h → AreRows v m (half v (unlinked x v))
     out_full h there = rows_set v r m (seen_list v) (half v (unlinked x v)) false l h k.rows there
-        (p.rings h.full (linked_full v r k l h x w there place has) ∙ ap (fin.insert r.rings h.full) (left_row false r h.full (k.rows false l h there) ∙ ap (map (member v false)) (sym (list_left l))))
+        (p.rings h.full (linked_full v r k l h x w there hook has) ∙ ap (fin.insert r.rings h.full) (left_row false r h.full (k.rows false l h there) ∙ ap (map (member v false)) (sym (list_left l))))
         (λ b n. elim b as (λ b. ((b ≡ false) × (n ≡ l) → ⊥) → half v (unlinked x v) b n ≡ seen_list v b n) [
           | true ↦ λ ne. refl
           | false ↦ λ ne. list_apart n (λ e. ne (refl, e))
         ])
 
     out_loose : AreLoose v m (OutFull v (unlinked x v))
-    out_loose = loose_unlinked v r m (IsOut v) (OutFull v (unlinked x v)) false x w k.loose place p.loose
+    out_loose = loose_unlinked v r m (IsOut v) (OutFull v (unlinked x v)) false x w k.loose hook p.loose
         (λ b y. elim b as (λ b. OutFull v (unlinked x v) b y → IsOut v b y ⊎ ((b ≡ false) × (y ≡ x))) [
           | true ↦ λ i. inl i
           | false ↦ λ i. elim i [ inl e ↦ inr (refl, e) | inr j ↦ inl j ]
         ])
 
-    out_standing : (n : ListName) (y : Element) → Has y (list_at (unlinked x v) n) → IsPlaced v y
+    out_standing : (n : ListName) (y : Element) → Has y (list_at (unlinked x v) n) → IsHooked v y
     out_standing n y i = k.standing n y (without_has same_element element_tells x y (list_at v n) (subst (Has y) (list_left n) i)).0
 
     out_headed : (n : ListName) → head_at v n ≡ None → list_at (unlinked x v) n ≡ []
@@ -313,14 +313,14 @@ module _ (v : Named) (r : RingLists) (k : AreTied v r) (x : Element) (w : Place)
 
     -- where x shows, it is linked in the second ring too
     out_linked : shows_at v x ≡ true → (h : ListHead) → head_at v l ≡ Some h → IsLinkedIn m h.shown w.shown
-    out_linked sx h there = linked_in v m true l (seen_list v true l) h.shown x w (out_full h there true l h there) (filter_has (shows_at v) x (list_at v l) has sx) place
+    out_linked sx h there = linked_in v m true l (seen_list v true l) h.shown x w (out_full h there true l h there) (filter_has (shows_at v) x (list_at v l) has sx) hook
 
     out_unlinked : shows_at v x ≡ false → IsLinked m w.shown → ⊥
-    out_unlinked nx linked = p.apart.not_loose linked.0 w.shown linked.1 (out_loose true x w place (inl nx))
+    out_unlinked nx linked = p.apart.not_loose linked.0 w.shown linked.1 (out_loose true x w hook (inl nx))
 
     -- the second member is there
     pub out_tagged : fin.contains_key m.tags w.shown ≡ true
-    out_tagged = ap is_some (ap (λ t. fin.get t w.shown) p.tags ∙ (k.members true x w place).tag)
+    out_tagged = ap is_some (ap (λ t. fin.get t w.shown) p.tags ∙ (k.members true x w hook).tag)
 
     seen_left : seen_list (unlinked x v) true l ≡ without same_element x (seen_list v true l)
     seen_left = ap (filter (shows_at v)) (list_left l) ∙ filter_swap (shows_at v) (λ z. not (same_element z x)) (list_at v l)
@@ -337,7 +337,7 @@ module _ (v : Named) (r : RingLists) (k : AreTied v r) (x : Element) (w : Place)
                 | false ↦ λ ne. refl
               ]);
           members = members_same v r t (q.tags ∙ p.tags) k.members;
-          loose = loose_unlinked v m t (OutFull v (unlinked x v)) (IsOut (unlinked x v)) true x w out_loose place q.loose
+          loose = loose_unlinked v m t (OutFull v (unlinked x v)) (IsOut (unlinked x v)) true x w out_loose hook q.loose
               (λ b y. elim b as (λ b. IsOut (unlinked x v) b y → OutFull v (unlinked x v) b y ⊎ ((b ≡ true) × (y ≡ x))) [
                 | true ↦ λ i. elim i [ inl s ↦ inl (inl s) | inr j ↦ elim j [ inl e ↦ inr (refl, e) | inr o ↦ inl (inr o) ] ]
                 | false ↦ λ i. inl i
@@ -392,7 +392,7 @@ module _ (v : Named) (r : RingLists) (k : AreTied v r) (x : Element) (w : Place)
     ]) ∙ sym (filter_twice (λ z. not (same_element z x)) (shows_at v) (list_at v n))
 
     pub hide_linked : IsLinked r w.shown
-    hide_linked = let h = some_head v r k l x has in (h.0.shown, linked_shown v r k l h.0 x w h.1 place (filter_has (shows_at v) x (list_at v l) has sx))
+    hide_linked = let h = some_head v r k l x has in (h.0.shown, linked_shown v r k l h.0 x w h.1 hook (filter_has (shows_at v) x (list_at v l) has sx))
 
     hidden_out : (n : ListName) → (n ≡ l → ⊥) → Has x (filter (shows_at v) (list_at v n)) → ⊥
     hidden_out n ne i = ne (one_list v r k n l x (has_filter (shows_at v) x (list_at v n) i).0 has)
@@ -402,18 +402,18 @@ module _ (v : Named) (r : RingLists) (k : AreTied v r) (x : Element) (w : Place)
         let h = some_head v r k l x has in
         record {
           rows = rows_set v r t (seen_list v) (seen_list (marked false x v)) true l h.0 k.rows h.1
-              (p.rings h.0.shown (linked_shown v r k l h.0 x w h.1 place (filter_has (shows_at v) x (list_at v l) has sx))
+              (p.rings h.0.shown (linked_shown v r k l h.0 x w h.1 hook (filter_has (shows_at v) x (list_at v l) has sx))
               ∙ ap (fin.insert r.rings h.0.shown)
               (ap (ring.without w.shown) (ring_is v r true l (seen_list v true l) h.0.shown (k.rows true l h.0 h.1))
-              ∙ ap (λ n. ring.without n (map (member v true) (seen_list v true l))) (sym (member_is v true x w place))
-              ∙ map_without same_element (member v true) x (seen_list v true l) (told v r k true x (seen_list v true l) (w, place) (placed_in v r k true l))
+              ∙ ap (λ n. ring.without n (map (member v true) (seen_list v true l))) (sym (member_is v true x w hook))
+              ∙ map_without same_element (member v true) x (seen_list v true l) (told v r k true x (seen_list v true l) (w, hook) (hooked_in v r k true l))
               ∙ ap (map (member v true)) (sym (hidden_list l))))
               (λ b n. elim b as (λ b. ((b ≡ true) × (n ≡ l) → ⊥) → seen_list (marked false x v) b n ≡ seen_list v b n) [
                 | true ↦ λ ne. hidden_list n ∙ without_out same_element element_tells x (filter (shows_at v) (list_at v n)) (hidden_out n (λ e. ne (refl, e)))
                 | false ↦ λ ne. refl
               ]);
           members = members_same v r t p.tags k.members;
-          loose = loose_unlinked v r t (IsOut v) (IsOut (marked false x v)) true x w k.loose place p.loose
+          loose = loose_unlinked v r t (IsOut v) (IsOut (marked false x v)) true x w k.loose hook p.loose
               (λ b y. elim b as (λ b. IsOut (marked false x v) b y → IsOut v b y ⊎ ((b ≡ true) × (y ≡ x))) [
                 | true ↦ λ i. elim i [
                   | inl s ↦ elim (element_tells y x) [ inl e ↦ inr (refl, e.1) | inr ne ↦ inl (inl (sym (shows_else false y ne.1) ∙ s)) ]

@@ -7,22 +7,22 @@ use Rattle.graph_state.specs.declared.name.ListName.{ListName}
 use Rattle.graph_state.specs.declared.name.Element.{Element}
 use Rattle.graph_state.specs.Names.{Has, number, first_of, last_of}
 use Rattle.graph_state.proofs.Has.{truth, filter_has, map_join, has_left, has_right, has_either, has_filter}
-use Rattle.graph_lists.specs.declared.token.Place.{Place}
-use Rattle.graph_lists.specs.Named.{Named, place_at, list_at, shows_at, seen_list, pick_head, pick_member}
+use Rattle.graph_lists.specs.declared.token.Hook.{Hook}
+use Rattle.graph_lists.specs.Named.{Named, hook_at, list_at, shows_at, seen_list, pick_head, pick_member}
 use Rattle.graph_lists.specs.Heads.{IsHeadOf, IsMemberOf, Finds}
 use Rattle.graph_lists.specs.Heads as heads
-use Rattle.graph_lists.specs.Tied.{member, IsPlaced, AreTied}
-use Rattle.graph_lists.proofs.Rows.{same_member, member_is, ring_is, is_head, linked_in, linked_shown, some_head, placed_in}
+use Rattle.graph_lists.specs.Tied.{member, IsHooked, AreTied}
+use Rattle.graph_lists.proofs.Rows.{same_member, member_is, ring_is, is_head, linked_in, linked_shown, some_head, hooked_in}
 
 module _ (v : Named) (b : Bool) where
-  member_of : (x : Element) → IsPlaced v x → IsMemberOf v b x (member v b x)
+  member_of : (x : Element) → IsHooked v x → IsMemberOf v b x (member v b x)
   member_of x s = (s.0, (s.1, sym (member_is v b x s.0 s.1)))
 
-  pub finds_first : (xs : List Element) → ((x : Element) → Has x xs → IsPlaced v x) → Finds v b (ring.front (map (member v b) xs)) (first_of xs)
+  pub finds_first : (xs : List Element) → ((x : Element) → Has x xs → IsHooked v x) → Finds v b (ring.front (map (member v b) xs)) (first_of xs)
   finds_first [] all = tt
   finds_first (x ∷ xs) all = member_of x (all x (inl refl))
 
-  pub finds_last : (xs : List Element) → ((x : Element) → Has x xs → IsPlaced v x) → Finds v b (ring.back (map (member v b) xs)) (last_of xs)
+  pub finds_last : (xs : List Element) → ((x : Element) → Has x xs → IsHooked v x) → Finds v b (ring.back (map (member v b) xs)) (last_of xs)
   finds_last [] all = tt
   finds_last (x ∷ []) all = member_of x (all x (inl refl))
   finds_last (x ∷ y ∷ ys) all = finds_last (y ∷ ys) (λ z i. all z (inr i))
@@ -61,8 +61,8 @@ module _ (v : Named) (r : RingLists) (k : AreTied v r) where
         },
       )
 
-  pub placed_at : (b : Bool) (l : ListName) (xs : List Element) → ((x : Element) → Has x xs → Has x (seen_list v b l)) → (x : Element) → Has x xs → IsPlaced v x
-  placed_at b l xs all x i = placed_in v r k b l x (all x i)
+  pub hooked_at : (b : Bool) (l : ListName) (xs : List Element) → ((x : Element) → Has x xs → Has x (seen_list v b l)) → (x : Element) → Has x xs → IsHooked v x
+  hooked_at b l xs all x i = hooked_in v r k b l x (all x i)
 
   module _ (b : Bool) (l : ListName) (x : Element) (before behind : List Element) (m : ℕ) where
     in_before : seen_list v b l ≡ before ++ x ∷ behind → (y : Element) → Has y before → Has y (seen_list v b l)
@@ -72,10 +72,10 @@ module _ (v : Named) (r : RingLists) (k : AreTied v r) where
     in_behind is y i = subst (Has y) (sym is) (has_right y before (x ∷ behind) i)
 
     pub finds_next : (r : Option ℕ) → seen_list v b l ≡ before ++ x ∷ behind → IsMemberOf v b x m → r ≡ ring.front (map (member v b) behind) → Finds v b r (first_of behind)
-    finds_next r is w e = subst (λ r. Finds v b r (first_of behind)) (sym e) (finds_first v b behind (placed_at b l behind (λ y i. in_behind is y (inr i))))
+    finds_next r is w e = subst (λ r. Finds v b r (first_of behind)) (sym e) (finds_first v b behind (hooked_at b l behind (λ y i. in_behind is y (inr i))))
 
     pub finds_prev : (r : Option ℕ) → seen_list v b l ≡ before ++ x ∷ behind → IsMemberOf v b x m → r ≡ ring.back (map (member v b) before) → Finds v b r (last_of before)
-    finds_prev r is w e = subst (λ r. Finds v b r (last_of before)) (sym e) (finds_last v b before (placed_at b l before (in_before is)))
+    finds_prev r is w e = subst (λ r. Finds v b r (last_of before)) (sym e) (finds_last v b before (hooked_at b l before (in_before is)))
 
     round : seen_list v b l ≡ before ++ x ∷ behind → (y : Element) → Has y ((behind ++ before) ++ x ∷ []) → Has y (seen_list v b l)
     round is y i = elim (has_either y (behind ++ before) (x ∷ []) i) [
@@ -88,7 +88,7 @@ module _ (v : Named) (r : RingLists) (k : AreTied v r) where
         let same : (map (member v b) behind ++ map (member v b) before) ++ m ∷ [] ≡ map (member v b) ((behind ++ before) ++ x ∷ []) =
         ap (λ n. (map (member v b) behind ++ map (member v b) before) ++ n ∷ []) (sym (is_member v b x m w))
         ∙ ap (λ ys. ys ++ member v b x ∷ []) (sym (map_join (member v b) behind before)) ∙ sym (map_join (member v b) (behind ++ before) (x ∷ [])) in
-        subst (λ r. Finds v b r (first_of ((behind ++ before) ++ x ∷ []))) (sym (e ∙ ap ring.front same)) (finds_first v b ((behind ++ before) ++ x ∷ []) (placed_at b l ((behind ++ before) ++ x ∷ []) (round is)))
+        subst (λ r. Finds v b r (first_of ((behind ++ before) ++ x ∷ []))) (sym (e ∙ ap ring.front same)) (finds_first v b ((behind ++ before) ++ x ∷ []) (hooked_at b l ((behind ++ before) ++ x ∷ []) (round is)))
 
     pub finds_cyclic_prev : (r : Option ℕ) → seen_list v b l ≡ before ++ x ∷ behind → IsMemberOf v b x m → r ≡ ring.back (m ∷ map (member v b) behind ++ map (member v b) before) → Finds v b r (last_of (x ∷ behind ++ before))
     finds_cyclic_prev r is w e =
@@ -98,16 +98,16 @@ module _ (v : Named) (r : RingLists) (k : AreTied v r) where
           | inl e ↦ in_behind is y (inl e)
           | inr j ↦ elim (has_either y behind before j) [ inl a ↦ in_behind is y (inr a) | inr c ↦ in_before is y c ]
         ] in
-        subst (λ r. Finds v b r (last_of (x ∷ behind ++ before))) (sym (e ∙ ap ring.back same)) (finds_last v b (x ∷ behind ++ before) (placed_at b l (x ∷ behind ++ before) in_round))
+        subst (λ r. Finds v b r (last_of (x ∷ behind ++ before))) (sym (e ∙ ap ring.back same)) (finds_last v b (x ∷ behind ++ before) (hooked_at b l (x ∷ behind ++ before) in_round))
 
   pub tag_of : (b : Bool) (x : Element) (m : ℕ) → IsMemberOf v b x m → fin.get r.tags m ≡ Some (number x)
   tag_of b x m w = ap (fin.get r.tags) (sym w.1.1) ∙ (k.members b x w.0 w.1.0).tag
 
-  pub shows_exactly : (x : Element) (w : Place) → place_at v x ≡ Some w → (l : ListName) → Has x (list_at v l) → (b : Bool) → (b ≡ true) ↔ ring.IsLinked r w.shown → b ≡ shows_at v x
-  shows_exactly x w place l has b exact = elim (truth (shows_at v x)) [
-    | inl s ↦ let h = some_head v r k l x has in exact.1 (h.0.shown, linked_shown v r k l h.0 x w h.1 place (filter_has (shows_at v) x (list_at v l) has s)) ∙ sym s
+  pub shows_exactly : (x : Element) (w : Hook) → hook_at v x ≡ Some w → (l : ListName) → Has x (list_at v l) → (b : Bool) → (b ≡ true) ↔ ring.IsLinked r w.shown → b ≡ shows_at v x
+  shows_exactly x w hook l has b exact = elim (truth (shows_at v x)) [
+    | inl s ↦ let h = some_head v r k l x has in exact.1 (h.0.shown, linked_shown v r k l h.0 x w h.1 hook (filter_has (shows_at v) x (list_at v l) has s)) ∙ sym s
     | inr f ↦ elim (truth b) [
-      | inl t ↦ let linked = exact.0 t in absurd (k.apart.not_loose linked.0 w.shown linked.1 (k.loose true x w place (inl f)))
+      | inl t ↦ let linked = exact.0 t in absurd (k.apart.not_loose linked.0 w.shown linked.1 (k.loose true x w hook (inl f)))
       | inr n ↦ n ∙ sym f
     ]
   ]

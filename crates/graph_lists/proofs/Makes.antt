@@ -12,11 +12,11 @@ use Rattle.graph_state.specs.Names.{Has, same_element, same_list, number}
 use Rattle.graph_state.proofs.Has.{not_both, some_same, none_some, map_same, filter_same, has_filter}
 use Rattle.graph_state.proofs.Same.{nat_tells, list_tells, element_tells, without_has}
 use Rattle.graph_lists.specs.declared.token.ListHead.{ListHead}
-use Rattle.graph_lists.specs.declared.token.Place.{Place}
-use Rattle.graph_lists.specs.Named.{Named, head_at, place_at, list_at, shows_at, seen_list, pick_head, pick_member, listed, unlisted, placed, unplaced}
+use Rattle.graph_lists.specs.declared.token.Hook.{Hook}
+use Rattle.graph_lists.specs.Named.{Named, head_at, hook_at, list_at, shows_at, seen_list, pick_head, pick_member, listed, unlisted, hooked, unhooked}
 use Rattle.graph_lists.specs.Table.{look}
 use Rattle.graph_lists.specs.Steps.{AddsHead, AddsMember}
-use Rattle.graph_lists.specs.Tied.{member, member_in, HasMembers, HasTag, IsRow, AreRows, IsMember, AreMembers, AreLoose, IsOut, IsPlaced, AreTied}
+use Rattle.graph_lists.specs.Tied.{member, member_in, HasMembers, HasTag, IsRow, AreRows, IsMember, AreMembers, AreLoose, IsOut, IsHooked, AreTied}
 use Rattle.graph_lists.proofs.Numbers.{look_new, look_else}
 use Rattle.graph_lists.proofs.Rows.{is_head, ring_is, rows_as, same_head, same_member, members_same, not_loose}
 use Rattle.graph_lists.proofs.Looses.{loose_as}
@@ -32,12 +32,12 @@ seen_none v false l e = e
 module _ (v : Named) (r t : RingLists) (g : ℕ) (a : AddsHead r t g) where
   -- a row stays as it was, whatever the new head is of
   row_kept : (owner : List (ℕ × Option (Bool × ListName))) (o : Option (Bool × ListName)) (b : Bool) (l : ListName) (xs : List Element) (h : ℕ)
-      → HasMembers v.places owner r b l xs h → HasMembers v.places ((g, o) ∷ owner) t b l xs h
+      → HasMembers v.hooks owner r b l xs h → HasMembers v.hooks ((g, o) ∷ owner) t b l xs h
   row_kept owner o b l xs h i =
       let ne = differs r.rings g h (ap is_some i.is) a.fresh in
       record { is = ap (λ m. fin.get m h) a.rings ∙ get_else r.rings g [] h ne ∙ i.is; name = look_else ◌==◌ nat_tells None g h o owner ne ∙ i.name }
 
-  row_new : (owner : List (ℕ × Option (Bool × ListName))) (b : Bool) (l : ListName) → HasMembers v.places ((g, Some (b, l)) ∷ owner) t b l [] g
+  row_new : (owner : List (ℕ × Option (Bool × ListName))) (b : Bool) (l : ListName) → HasMembers v.hooks ((g, Some (b, l)) ∷ owner) t b l [] g
   row_new owner b l = record { is = ap (λ m. fin.get m g) a.rings ∙ get_new r.rings g []; name = look_new ◌==◌ nat_tells None g (Some (b, l)) owner }
 
 module _ (v : Named) (r m t : RingLists) (k : AreTied v r) (l : ListName) (h : ListHead) (fresh : head_at v l ≡ None) (p : AddsHead r m h.full) (q : AddsHead m t h.shown) where
@@ -73,10 +73,10 @@ module _ (v : Named) (r m t : RingLists) (k : AreTied v r) (l : ListName) (h : L
   }
 
 -- members change for elements that stand in no list alone
-module _ (v u : Named) (k : (l : ListName) (y : Element) → Has y (list_at v l) → place_at u y ≡ place_at v y) where
-  seen_places : (b : Bool) (l : ListName) (y : Element) → Has y (seen_list v b l) → place_at u y ≡ place_at v y
-  seen_places true l y i = k l y (has_filter (shows_at v) y (list_at v l) i).0
-  seen_places false l y i = k l y i
+module _ (v u : Named) (k : (l : ListName) (y : Element) → Has y (list_at v l) → hook_at u y ≡ hook_at v y) where
+  seen_hooks : (b : Bool) (l : ListName) (y : Element) → Has y (seen_list v b l) → hook_at u y ≡ hook_at v y
+  seen_hooks true l y i = k l y (has_filter (shows_at v) y (list_at v l) i).0
+  seen_hooks false l y i = k l y i
 
   rows_kept : (r t : RingLists) → AreRows v r (seen_list v) → u.owner ≡ v.owner → ((l : ListName) (h : ListHead) → head_at u l ≡ Some h → head_at v l ≡ Some h) → t.rings ≡ r.rings
       → ((b : Bool) (l : ListName) → seen_list u b l ≡ seen_list v b l) → AreRows u t (seen_list u)
@@ -84,20 +84,20 @@ module _ (v u : Named) (k : (l : ListName) (y : Element) → Has y (list_at v l)
       let i = rows b l h (heads l h at) in
       record {
         is = ap (λ m. fin.get m (pick_head b h)) same ∙ i.is
-            ∙ ap Some (map_same (member v b) (member u b) (seen_list v b l) (λ y j. sym (ap (member_in b) (seen_places b l y j))) ∙ ap (map (member u b)) (sym (seen b l)));
+            ∙ ap Some (map_same (member v b) (member u b) (seen_list v b l) (λ y j. sym (ap (member_in b) (seen_hooks b l y j))) ∙ ap (map (member u b)) (sym (seen b l)));
         name = ap (λ o. look ◌==◌ None o (pick_head b h)) owner ∙ i.name;
       }
 
-module _ (v : Named) (r m t : RingLists) (k : AreTied v r) (x : Element) (w : Place) (fresh : place_at v x ≡ None) (p : AddsMember r m w.full (number x)) (q : AddsMember m t w.shown (number x)) where
-  other : (y : Element) → IsPlaced v y → y ≡ x → ⊥
-  other y s e = none_some (sym fresh ∙ sym (ap (place_at v) e) ∙ s.1)
+module _ (v : Named) (r m t : RingLists) (k : AreTied v r) (x : Element) (w : Hook) (fresh : hook_at v x ≡ None) (p : AddsMember r m w.full (number x)) (q : AddsMember m t w.shown (number x)) where
+  other : (y : Element) → IsHooked v y → y ≡ x → ⊥
+  other y s e = none_some (sym fresh ∙ sym (ap (hook_at v) e) ∙ s.1)
 
-  place_else : (y : Element) → (y ≡ x → ⊥) → place_at (placed x w v) y ≡ place_at v y
-  place_else y ne = look_else same_element element_tells None x y (Some w) v.places ne
+  hook_else : (y : Element) → (y ≡ x → ⊥) → hook_at (hooked x w v) y ≡ hook_at v y
+  hook_else y ne = look_else same_element element_tells None x y (Some w) v.hooks ne
 
-  placed_seen : (b : Bool) (l : ListName) → seen_list (placed x w v) b l ≡ seen_list v b l
-  placed_seen true l = filter_same (shows_at (placed x w v)) (shows_at v) (list_at v l) (λ y i. look_else same_element element_tells false x y true v.shown (other y (k.standing l y i)))
-  placed_seen false l = refl
+  hooked_seen : (b : Bool) (l : ListName) → seen_list (hooked x w v) b l ≡ seen_list v b l
+  hooked_seen true l = filter_same (shows_at (hooked x w v)) (shows_at v) (list_at v l) (λ y i. look_else same_element element_tells false x y true v.shown (other y (k.standing l y i)))
+  hooked_seen false l = refl
 
   tag_kept : (r t : RingLists) (g tag : ℕ) (who : List (ℕ × Option (Bool × Element))) (o : Option (Bool × Element)) (b : Bool) (y : Element) (n : ℕ) → AddsMember r t g tag → HasTag who r b y n → HasTag ((g, o) ∷ who) t b y n
   tag_kept r t g tag who o b y n a i =
@@ -107,66 +107,66 @@ module _ (v : Named) (r m t : RingLists) (k : AreTied v r) (x : Element) (w : Pl
   tag_new : (r t : RingLists) (g : ℕ) (who : List (ℕ × Option (Bool × Element))) (b : Bool) → AddsMember r t g (number x) → HasTag ((g, Some (b, x)) ∷ who) t b x g
   tag_new r t g who b a = record { tag = ap (λ s. fin.get s g) a.tags ∙ get_new r.tags g (number x); name = look_new ◌==◌ nat_tells None g (Some (b, x)) who }
 
-  placed_here : (b : Bool) (z : Place) → place_at (placed x w v) x ≡ Some z → IsMember (placed x w v) t b x (pick_member b z)
-  placed_here b z at =
-      let e : z ≡ w = some_same (sym at ∙ look_new same_element element_tells None x (Some w) v.places) in
-      subst (λ i. IsMember (placed x w v) t b x (pick_member b i)) (sym e)
-      (elim b as (λ b. IsMember (placed x w v) t b x (pick_member b w)) [
+  hooked_here : (b : Bool) (z : Hook) → hook_at (hooked x w v) x ≡ Some z → IsMember (hooked x w v) t b x (pick_member b z)
+  hooked_here b z at =
+      let e : z ≡ w = some_same (sym at ∙ look_new same_element element_tells None x (Some w) v.hooks) in
+      subst (λ i. IsMember (hooked x w v) t b x (pick_member b i)) (sym e)
+      (elim b as (λ b. IsMember (hooked x w v) t b x (pick_member b w)) [
         | true ↦ tag_new m t w.shown ((w.full, Some (false, x)) ∷ v.who) true q
         | false ↦ tag_kept m t w.shown (number x) ((w.full, Some (false, x)) ∷ v.who) (Some (true, x)) false x w.full q (tag_new r m w.full v.who false p)
       ])
 
-  placed_members : AreMembers (placed x w v) t
-  placed_members b y z at = elim (element_tells y x) [
-    | inl e ↦ subst (λ y. place_at (placed x w v) y ≡ Some z → IsMember (placed x w v) t b y (pick_member b z)) (sym e.1) (placed_here b z) at
+  hooked_members : AreMembers (hooked x w v) t
+  hooked_members b y z at = elim (element_tells y x) [
+    | inl e ↦ subst (λ y. hook_at (hooked x w v) y ≡ Some z → IsMember (hooked x w v) t b y (pick_member b z)) (sym e.1) (hooked_here b z) at
     | inr ne ↦
         tag_kept m t w.shown (number x) ((w.full, Some (false, x)) ∷ v.who) (Some (true, x)) b y (pick_member b z) q
-        (tag_kept r m w.full (number x) v.who (Some (false, x)) b y (pick_member b z) p (k.members b y z (sym (place_else y ne.1) ∙ at)))
+        (tag_kept r m w.full (number x) v.who (Some (false, x)) b y (pick_member b z) p (k.members b y z (sym (hook_else y ne.1) ∙ at)))
   ]
 
   loose_is : t.loose ≡ w.shown ∷ w.full ∷ r.loose
   loose_is = q.loose ∙ ap (λ ys. w.shown ∷ ys) p.loose
 
-  still_out : (b : Bool) (y : Element) → (y ≡ x → ⊥) → IsOut (placed x w v) b y → IsOut v b y
+  still_out : (b : Bool) (y : Element) → (y ≡ x → ⊥) → IsOut (hooked x w v) b y → IsOut v b y
   still_out true y ne (inl s) = inl (sym (look_else same_element element_tells false x y true v.shown ne) ∙ s)
   still_out true y ne (inr i) = inr (elim i [ inl e ↦ absurd (ne e) | inr j ↦ j ])
   still_out false y ne i = elim i [ inl e ↦ absurd (ne e) | inr j ↦ j ]
 
-  placed_loose : AreLoose (placed x w v) t (IsOut (placed x w v))
-  placed_loose b y z at out = subst (IsIn (pick_member b z)) (sym loose_is) (elim (element_tells y x) [
+  hooked_loose : AreLoose (hooked x w v) t (IsOut (hooked x w v))
+  hooked_loose b y z at out = subst (IsIn (pick_member b z)) (sym loose_is) (elim (element_tells y x) [
     | inl e ↦
-        let s : z ≡ w = some_same (sym at ∙ ap (place_at (placed x w v)) e.1 ∙ look_new same_element element_tells None x (Some w) v.places) in
+        let s : z ≡ w = some_same (sym at ∙ ap (hook_at (hooked x w v)) e.1 ∙ look_new same_element element_tells None x (Some w) v.hooks) in
         elim b as (λ b. IsIn (pick_member b z) (w.shown ∷ w.full ∷ r.loose)) [ true ↦ inl (ap (pick_member true) s) | false ↦ inr (inl (ap (pick_member false) s)) ]
-    | inr ne ↦ inr (inr (k.loose b y z (sym (place_else y ne.1) ∙ at) (still_out b y ne.1 out)))
+    | inr ne ↦ inr (inr (k.loose b y z (sym (hook_else y ne.1) ∙ at) (still_out b y ne.1 out)))
   ])
 
-  pub tied_placed : AreTied (placed x w v) t
-  tied_placed = record {
-    rows = rows_kept v (placed x w v) (λ l y i. place_else y (other y (k.standing l y i))) r t k.rows refl (λ l h e. e) (q.rings ∙ p.rings) placed_seen;
-    members = placed_members;
-    loose = placed_loose;
-    standing = λ l y i. let s = k.standing l y i in (s.0, place_else y (other y s) ∙ s.1);
+  pub tied_hooked : AreTied (hooked x w v) t
+  tied_hooked = record {
+    rows = rows_kept v (hooked x w v) (λ l y i. hook_else y (other y (k.standing l y i))) r t k.rows refl (λ l h e. e) (q.rings ∙ p.rings) hooked_seen;
+    members = hooked_members;
+    loose = hooked_loose;
+    standing = λ l y i. let s = k.standing l y i in (s.0, hook_else y (other y s) ∙ s.1);
     headed = k.headed;
     apart = q.apart;
   }
 
 -- an element that stands nowhere is gone
-module _ (v : Named) (r m t : RingLists) (k : AreTied v r) (x : Element) (w : Place) (place : place_at v x ≡ Some w) (out : Has x v.loose)
+module _ (v : Named) (r m t : RingLists) (k : AreTied v r) (x : Element) (w : Hook) (hook : hook_at v x ≡ Some w) (out : Has x v.loose)
     (tags : t.tags ≡ fin.remove (fin.remove r.tags w.full) w.shown) (loose : t.loose ≡ ring.without w.shown (ring.without w.full r.loose)) (rings : t.rings ≡ r.rings) (apart : AreApart t) where
-  gone_else : (y : Element) → (y ≡ x → ⊥) → place_at (unplaced x v) y ≡ place_at v y
-  gone_else y ne = look_else same_element element_tells None x y None v.places ne
+  gone_else : (y : Element) → (y ≡ x → ⊥) → hook_at (unhooked x v) y ≡ hook_at v y
+  gone_else y ne = look_else same_element element_tells None x y None v.hooks ne
 
-  not_x : (y : Element) (z : Place) → place_at (unplaced x v) y ≡ Some z → y ≡ x → ⊥
-  not_x y z at e = none_some (sym (ap (place_at (unplaced x v)) e ∙ look_new same_element element_tells None x None v.places) ∙ at)
+  not_x : (y : Element) (z : Hook) → hook_at (unhooked x v) y ≡ Some z → y ≡ x → ⊥
+  not_x y z at e = none_some (sym (ap (hook_at (unhooked x v)) e ∙ look_new same_element element_tells None x None v.hooks) ∙ at)
 
   not_in : (l : ListName) (y : Element) → Has y (list_at v l) → y ≡ x → ⊥
   not_in l y i e = not_loose v r k l x (subst (λ z. Has z (list_at v l)) e i) out
 
-  not_member : (b c : Bool) (y : Element) (z : Place) → place_at v y ≡ Some z → (y ≡ x → ⊥) → pick_member b z ≡ pick_member c w → ⊥
-  not_member b c y z at ne e = ne (same_member v r b c y x (pick_member b z) (pick_member c w) (k.members b y z at) (k.members c x w place) e).1
+  not_member : (b c : Bool) (y : Element) (z : Hook) → hook_at v y ≡ Some z → (y ≡ x → ⊥) → pick_member b z ≡ pick_member c w → ⊥
+  not_member b c y z at ne e = ne (same_member v r b c y x (pick_member b z) (pick_member c w) (k.members b y z at) (k.members c x w hook) e).1
 
-  unplaced_members : AreMembers (unplaced x v) t
-  unplaced_members b y z at =
+  unhooked_members : AreMembers (unhooked x v) t
+  unhooked_members b y z at =
       let ne = not_x y z at in
       let at' = sym (gone_else y ne) ∙ at in
       let i = k.members b y z at' in
@@ -176,24 +176,24 @@ module _ (v : Named) (r m t : RingLists) (k : AreTied v r) (x : Element) (w : Pl
         name = i.name;
       }
 
-  out_before : (b : Bool) (y : Element) → IsOut (unplaced x v) b y → IsOut v b y
+  out_before : (b : Bool) (y : Element) → IsOut (unhooked x v) b y → IsOut v b y
   out_before true y (inl s) = inl s
   out_before true y (inr i) = inr (without_has same_element element_tells x y v.loose i).0
   out_before false y i = (without_has same_element element_tells x y v.loose i).0
 
-  unplaced_loose : AreLoose (unplaced x v) t (IsOut (unplaced x v))
-  unplaced_loose b y z at o =
+  unhooked_loose : AreLoose (unhooked x v) t (IsOut (unhooked x v))
+  unhooked_loose b y z at o =
       let ne = not_x y z at in
       let at' = sym (gone_else y ne) ∙ at in
       subst (IsIn (pick_member b z)) (sym loose)
       (still_in (pick_member b z) w.shown (ring.without w.full r.loose)
       (still_in (pick_member b z) w.full r.loose (k.loose b y z at' (out_before b y o)) (not_member b false y z at' ne)) (not_member b true y z at' ne))
 
-  pub tied_unplaced : AreTied (unplaced x v) t
-  tied_unplaced = record {
-    rows = rows_kept v (unplaced x v) (λ l y i. gone_else y (not_in l y i)) r t k.rows refl (λ l h e. e) rings (λ b l. refl);
-    members = unplaced_members;
-    loose = unplaced_loose;
+  pub tied_unhooked : AreTied (unhooked x v) t
+  tied_unhooked = record {
+    rows = rows_kept v (unhooked x v) (λ l y i. gone_else y (not_in l y i)) r t k.rows refl (λ l h e. e) rings (λ b l. refl);
+    members = unhooked_members;
+    loose = unhooked_loose;
     standing = λ l y i. let s = k.standing l y i in (s.0, gone_else y (not_in l y i) ∙ s.1);
     headed = k.headed;
     apart = apart;
@@ -243,13 +243,13 @@ module _ (v : Named) (r : RingLists) (k : AreTied v r) (l : ListName) (h : ListH
   pub unlisted_left : (m : RingLists) → m.rings ≡ fin.remove r.rings h.full → ring.ring m h.shown ≡ []
   unlisted_left m e = ap (λ o. unwrap_or o []) (shown_kept m e) ∙ unlisted_empty true
 
-pub unplaced_shown : (v : Named) (r m : RingLists) (k : AreTied v r) (x : Element) (w : Place) → place_at v x ≡ Some w → Has x v.loose → m.loose ≡ ring.without w.full r.loose → IsLoose m w.shown
-unplaced_shown v r m k x w place out e = subst (IsIn w.shown) (sym e) (still_in w.shown w.full r.loose (k.loose true x w place (inr out))
-    (λ e. let d = (same_member v r true false x x w.shown w.full (k.members true x w place) (k.members false x w place) e).0 in cc))
+pub unhooked_shown : (v : Named) (r m : RingLists) (k : AreTied v r) (x : Element) (w : Hook) → hook_at v x ≡ Some w → Has x v.loose → m.loose ≡ ring.without w.full r.loose → IsLoose m w.shown
+unhooked_shown v r m k x w hook out e = subst (IsIn w.shown) (sym e) (still_in w.shown w.full r.loose (k.loose true x w hook (inr out))
+    (λ e. let d = (same_member v r true false x x w.shown w.full (k.members true x w hook) (k.members false x w hook) e).0 in cc))
 
-pub unplaced_tag : (v : Named) (r : RingLists) (k : AreTied v r) (x : Element) (w : Place) → place_at v x ≡ Some w → (m : RingLists) → m.tags ≡ fin.remove r.tags w.full → fin.contains_key m.tags w.shown ≡ true
-unplaced_tag v r k x w place m e = ap is_some (ap (λ s. fin.get s w.shown) e ∙ get_left r.tags w.full w.shown
-    (λ e. let d = (same_member v r true false x x w.shown w.full (k.members true x w place) (k.members false x w place) e).0 in cc) ∙ (k.members true x w place).tag)
+pub unhooked_tag : (v : Named) (r : RingLists) (k : AreTied v r) (x : Element) (w : Hook) → hook_at v x ≡ Some w → (m : RingLists) → m.tags ≡ fin.remove r.tags w.full → fin.contains_key m.tags w.shown ≡ true
+unhooked_tag v r k x w hook m e = ap is_some (ap (λ s. fin.get s w.shown) e ∙ get_left r.tags w.full w.shown
+    (λ e. let d = (same_member v r true false x x w.shown w.full (k.members true x w hook) (k.members false x w hook) e).0 in cc) ∙ (k.members true x w hook).tag)
 
 pub rings_same : (v : Named) (r t : RingLists) → AreTied v r → (t.rings ≡ r.rings) × (t.loose ≡ r.loose) × (t.tags ≡ r.tags) → AreApart t → AreTied v t
 rings_same v r t k same apart = record {

@@ -10,9 +10,9 @@ use Rattle.graph_state.specs.Names.{Has, IsOnce, same_element}
 use Rattle.graph_state.proofs.Has.{some_same, some_or_none, has_map, has_none, has_filter}
 use Rattle.graph_state.proofs.Same.{flag_tells, list_tells, element_tells}
 use Rattle.graph_lists.specs.declared.token.ListHead.{ListHead}
-use Rattle.graph_lists.specs.declared.token.Place.{Place}
-use Rattle.graph_lists.specs.Named.{Named, head_at, place_at, list_at, shows_at, seen_list, pick_head, pick_member}
-use Rattle.graph_lists.specs.Tied.{member_in, member, IsRow, AreRows, IsMember, AreMembers, IsPlaced, AreTied, owner_of, who_is}
+use Rattle.graph_lists.specs.declared.token.Hook.{Hook}
+use Rattle.graph_lists.specs.Named.{Named, head_at, hook_at, list_at, shows_at, seen_list, pick_head, pick_member}
+use Rattle.graph_lists.specs.Tied.{member_in, member, IsRow, AreRows, IsMember, AreMembers, IsHooked, AreTied, owner_of, who_is}
 use Rattle.graph_lists.proofs.Numbers.{is_in, Separates, separates}
 
 -- a list in one of the two rings, and an element in one of them
@@ -34,7 +34,7 @@ same_member v r b c x y m n i j e =
     let p : member_at b x ≡ member_at c y = some_same (sym i.name ∙ ap (who_is v) e ∙ j.name) in
     (ap (λ (q : Bool × Element). q.0) p, ap (λ (q : Bool × Element). q.1) p)
 
-pub member_is : (v : Named) (b : Bool) (x : Element) (w : Place) → place_at v x ≡ Some w → member v b x ≡ pick_member b w
+pub member_is : (v : Named) (b : Bool) (x : Element) (w : Hook) → hook_at v x ≡ Some w → member v b x ≡ pick_member b w
 member_is v b x w e = ap (member_in b) e
 
 pub ring_is : (v : Named) (r : RingLists) (b : Bool) (l : ListName) (xs : List Element) (h : ℕ) → IsRow v r b l xs h → ring.ring r h ≡ map (member v b) xs
@@ -48,10 +48,10 @@ distinct_once f [] d = tt
 distinct_once f (x ∷ xs) d = ((λ i. d.0 (is_in (f x) (map f xs) (has_map f x xs i))), distinct_once f xs d.1)
 
 module _ (v : Named) (r : RingLists) where
-  pub linked_in : (b : Bool) (l : ListName) (xs : List Element) (h : ℕ) (x : Element) (w : Place) → IsRow v r b l xs h → Has x xs → place_at v x ≡ Some w → IsLinkedIn r h (pick_member b w)
-  linked_in b l xs h x w i has place = record {
+  pub linked_in : (b : Bool) (l : ListName) (xs : List Element) (h : ℕ) (x : Element) (w : Hook) → IsRow v r b l xs h → Has x xs → hook_at v x ≡ Some w → IsLinkedIn r h (pick_member b w)
+  linked_in b l xs h x w i has hook = record {
     head = is_head v r b l xs h i;
-    member = subst (λ m. IsIn m (ring.ring r h)) (member_is v b x w place)
+    member = subst (λ m. IsIn m (ring.ring r h)) (member_is v b x w hook)
         (subst (IsIn (member v b x)) (sym (ring_is v r b l xs h i)) (is_in _ _ (has_map (member v b) x xs has)));
   }
 
@@ -97,11 +97,11 @@ module _ (v : Named) (r : RingLists) (k : AreTied v r) where
   some_head l x i = elim (some_or_none (head_at v l)) [ inl n ↦ absurd (has_none (list_at v l) (k.headed l n) x i) | inr s ↦ s ]
 
   -- an element is linked in the ring of its list
-  pub linked_full : (l : ListName) (h : ListHead) (x : Element) (w : Place) → head_at v l ≡ Some h → place_at v x ≡ Some w → Has x (list_at v l) → IsLinkedIn r h.full w.full
-  linked_full l h x w at place i = linked_in v r false l (list_at v l) h.full x w (k.rows false l h at) i place
+  pub linked_full : (l : ListName) (h : ListHead) (x : Element) (w : Hook) → head_at v l ≡ Some h → hook_at v x ≡ Some w → Has x (list_at v l) → IsLinkedIn r h.full w.full
+  linked_full l h x w at hook i = linked_in v r false l (list_at v l) h.full x w (k.rows false l h at) i hook
 
-  pub linked_shown : (l : ListName) (h : ListHead) (x : Element) (w : Place) → head_at v l ≡ Some h → place_at v x ≡ Some w → Has x (seen_list v true l) → IsLinkedIn r h.shown w.shown
-  linked_shown l h x w at place i = linked_in v r true l (seen_list v true l) h.shown x w (k.rows true l h at) i place
+  pub linked_shown : (l : ListName) (h : ListHead) (x : Element) (w : Hook) → head_at v l ≡ Some h → hook_at v x ≡ Some w → Has x (seen_list v true l) → IsLinkedIn r h.shown w.shown
+  linked_shown l h x w at hook i = linked_in v r true l (seen_list v true l) h.shown x w (k.rows true l h at) i hook
 
   -- nothing stands twice in a list
   pub once_list : (l : ListName) (h : ListHead) → head_at v l ≡ Some h → IsOnce (list_at v l)
@@ -125,14 +125,14 @@ module _ (v : Named) (r : RingLists) (k : AreTied v r) where
       let h = some_head l x i in
       k.apart.not_loose h.0.full w.0.full (linked_full l h.0 x w.0 h.1 w.1 i) (k.loose false x w.0 w.1 j)
 
-  pub one_member : (b : Bool) (x y : Element) (w u : Place) → place_at v x ≡ Some w → place_at v y ≡ Some u → pick_member b w ≡ pick_member b u → x ≡ y
+  pub one_member : (b : Bool) (x y : Element) (w u : Hook) → hook_at v x ≡ Some w → hook_at v y ≡ Some u → pick_member b w ≡ pick_member b u → x ≡ y
   one_member b x y w u e f same = (same_member v r b b x y (pick_member b w) (pick_member b u) (k.members b x w e) (k.members b y u f) same).1
 
   -- members tell what stands in a list apart
-  pub told : (b : Bool) (x : Element) (zs : List Element) → IsPlaced v x → ((z : Element) → Has z zs → IsPlaced v z) → Separates same_element (member v b) x zs
+  pub told : (b : Bool) (x : Element) (zs : List Element) → IsHooked v x → ((z : Element) → Has z zs → IsHooked v z) → Separates same_element (member v b) x zs
   told b x zs w all = separates same_element (member v b) x zs element_tells (λ z i e.
       let u = all z i in one_member b z x u.0 w.0 u.1 w.1 (sym (member_is v b z u.0 u.1) ∙ e ∙ member_is v b x w.0 w.1))
 
-  pub placed_in : (b : Bool) (l : ListName) (z : Element) → Has z (seen_list v b l) → IsPlaced v z
-  placed_in true l z i = k.standing l z (has_filter (shows_at v) z (list_at v l) i).0
-  placed_in false l z i = k.standing l z i
+  pub hooked_in : (b : Bool) (l : ListName) (z : Element) → Has z (seen_list v b l) → IsHooked v z
+  hooked_in true l z i = k.standing l z (has_filter (shows_at v) z (list_at v l) i).0
+  hooked_in false l z i = k.standing l z i

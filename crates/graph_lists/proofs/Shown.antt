@@ -9,11 +9,11 @@ use Rattle.graph_state.specs.Names.{Has, IsOnce, same_element, behind}
 use Rattle.graph_state.proofs.Has.{not_both, has_left, has_right, has_filter, filter_has, filter_join, filter_same}
 use Rattle.graph_state.proofs.Same.{element_tells, same_self, same_not}
 use Rattle.graph_lists.specs.declared.token.ListHead.{ListHead}
-use Rattle.graph_lists.specs.declared.token.Place.{Place}
-use Rattle.graph_lists.specs.Named.{Named, head_at, place_at, list_at, shows_at, seen_list, marked, IsFirstShown, IsNextShown}
+use Rattle.graph_lists.specs.declared.token.Hook.{Hook}
+use Rattle.graph_lists.specs.Named.{Named, head_at, hook_at, list_at, shows_at, seen_list, marked, IsFirstShown, IsNextShown}
 use Rattle.graph_lists.specs.Tied.{member, AreLoose, IsOut, AreTied}
 use Rattle.graph_lists.proofs.Numbers.{map_behind, look_new, look_else}
-use Rattle.graph_lists.proofs.Rows.{member_is, ring_is, rows_set, once_list, members_same, some_head, linked_shown, one_list, not_loose, told, placed_in}
+use Rattle.graph_lists.proofs.Rows.{member_is, ring_is, rows_set, once_list, members_same, some_head, linked_shown, one_list, not_loose, told, hooked_in}
 use Rattle.graph_lists.proofs.Looses.{loose_linked}
 use Rattle.graph_lists.proofs.Links.{false_true}
 
@@ -41,7 +41,7 @@ append_assoc_cut : {X : Type 0} (xs : List X) (y : X) (ys zs : List X) → xs ++
 append_assoc_cut [] y ys zs = refl
 append_assoc_cut (x ∷ xs) y ys zs = ap (λ us. x ∷ us) (append_assoc_cut xs y ys zs)
 
-module _ (v : Named) (r : RingLists) (k : AreTied v r) (x : Element) (w : Place) (place : place_at v x ≡ Some w) (hidden : shows_at v x ≡ false) (l : ListName) where
+module _ (v : Named) (r : RingLists) (k : AreTied v r) (x : Element) (w : Hook) (hook : hook_at v x ≡ Some w) (hidden : shows_at v x ≡ false) (l : ListName) where
   shows_else : (y : Element) → (y ≡ x → ⊥) → shows_at (marked true x v) y ≡ shows_at v y
   shows_else y ne = look_else same_element element_tells false x y true v.shown ne
 
@@ -53,7 +53,7 @@ module _ (v : Named) (r : RingLists) (k : AreTied v r) (x : Element) (w : Place)
   same_seen xs out = filter_same (shows_at (marked true x v)) (shows_at v) xs (λ z i. shows_else z (λ e. out (subst (λ y. Has y xs) e i)))
 
   shown_loose : (t : RingLists) → Has x (list_at v l) → t.loose ≡ ring.without w.shown r.loose → AreLoose v t (IsOut (marked true x v))
-  shown_loose t has e = loose_linked v r t (IsOut v) (IsOut (marked true x v)) true x w k.members k.loose place e
+  shown_loose t has e = loose_linked v r t (IsOut v) (IsOut (marked true x v)) true x w k.members k.loose hook e
       (λ b y. elim b as (λ b. IsOut (marked true x v) b y → IsOut v b y × ((b ≡ true) × (y ≡ x) → ⊥)) [
         | true ↦ λ i. elim i [
           | inl s ↦ elim (element_tells y x) [
@@ -81,7 +81,7 @@ module _ (v : Named) (r : RingLists) (k : AreTied v r) (x : Element) (w : Place)
   }
 
   pub shown_out : IsLoose r w.shown
-  shown_out = k.loose true x w place (inl hidden)
+  shown_out = k.loose true x w hook (inl hidden)
 
   pub tied_first : (t : RingLists) (h : ListHead) → head_at v l ≡ Some h → IsFirstShown v l x → t.rings ≡ fin.insert r.rings h.shown (w.shown ∷ ring.ring r h.shown)
       → t.tags ≡ r.tags → t.loose ≡ ring.without w.shown r.loose → AreApart t → AreTied (marked true x v) t
@@ -94,10 +94,10 @@ module _ (v : Named) (r : RingLists) (k : AreTied v r) (x : Element) (w : Place)
       ∙ ap (λ ys. ys ++ x ∷ filter (shows_at u) f.behind) (same_seen f.before out.0 ∙ f.none) ∙ ap (λ ys. x ∷ ys) (same_seen f.behind out.1) in
       tied_shown t (w.shown ∷ ring.ring r h.shown) h there (subst (Has x) (sym f.is) (has_right x f.before (x ∷ f.behind) (inl refl))) rings
       (ap (λ ys. w.shown ∷ ys) (ring_is v r true l (seen_list v true l) h.shown (k.rows true l h there) ∙ ap (map (member v true)) old)
-      ∙ ap (λ n. n ∷ map (member v true) (filter (shows_at v) f.behind)) (sym (member_is v true x w place)) ∙ ap (map (member v true)) (sym new))
+      ∙ ap (λ n. n ∷ map (member v true) (filter (shows_at v) f.behind)) (sym (member_is v true x w hook)) ∙ ap (map (member v true)) (sym new))
       tags loose apart
 
-  module _ (y : Element) (z : Place) (beside : place_at v y ≡ Some z) (f : IsNextShown v l y x) where
+  module _ (y : Element) (z : Hook) (beside : hook_at v y ≡ Some z) (f : IsNextShown v l y x) where
     has_y : Has y (list_at v l)
     has_y = subst (Has y) (sym f.is) (has_right y f.before (y ∷ (f.between ++ x ∷ f.behind)) (inl refl))
 
@@ -130,7 +130,7 @@ module _ (v : Named) (r : RingLists) (k : AreTied v r) (x : Element) (w : Place)
         (rings h.0.shown (linked_shown v r k l h.0 y z h.1 beside (filter_has (shows_at v) y (list_at v l) has_y f.shows)))
         (ap (ring.with_after z.shown w.shown) (ring_is v r true l (seen_list v true l) h.0.shown (k.rows true l h.0 h.1))
         ∙ ap (λ n. ring.with_after n w.shown (map (member v true) (seen_list v true l))) (sym (member_is v true y z beside))
-        ∙ ap (λ n. ring.with_after (member v true y) n (map (member v true) (seen_list v true l))) (sym (member_is v true x w place))
-        ∙ map_behind same_element (member v true) y x (seen_list v true l) (told v r k true y (seen_list v true l) (z, beside) (placed_in v r k true l))
+        ∙ ap (λ n. ring.with_after (member v true y) n (map (member v true) (seen_list v true l))) (sym (member_is v true x w hook))
+        ∙ map_behind same_element (member v true) y x (seen_list v true l) (told v r k true y (seen_list v true l) (z, beside) (hooked_in v r k true l))
         ∙ ap (map (member v true)) put)
         tags loose apart

@@ -9,7 +9,7 @@ use Rattle.graph_state.specs.Turned.{turned_list, turned_element}
 use Rattle.graph_state.proofs.Has.{has_mapped, map_on, map_same, filter_map_is, filter_same}
 use Rattle.graph_state.proofs.Same.{Tells, list_tells, element_tells, same_is, same_not}
 use Rattle.graph_state.proofs.Turned.{list_twice, element_twice}
-use Rattle.graph_lists.specs.Named.{Named, head_at, place_at, list_at, shows_at, seen_list}
+use Rattle.graph_lists.specs.Named.{Named, head_at, hook_at, list_at, shows_at, seen_list}
 use Rattle.graph_lists.specs.Table.{look, each, renamed}
 use Rattle.graph_lists.specs.Tied.{owner_of, who_is, member_in, member, IsOut, AreTied}
 use Rattle.graph_lists.specs.Turned.{list_owner, element_owner, turned}
@@ -37,8 +37,8 @@ module _ (d : Bool) (v : Named) where
   pub heads_turned : (l : ListName) → head_at (turned d v) l ≡ head_at v (turned_list d l)
   heads_turned l = look_renamed same_list list_tells None (turned_list d) (list_twice d) v.heads l
 
-  pub places_turned : (x : Element) → place_at (turned d v) x ≡ place_at v (turned_element x)
-  places_turned x = look_renamed same_element element_tells None turned_element element_twice v.places x
+  pub hooks_turned : (x : Element) → hook_at (turned d v) x ≡ hook_at v (turned_element x)
+  hooks_turned x = look_renamed same_element element_tells None turned_element element_twice v.hooks x
 
   pub shown_turned : (x : Element) → shows_at (turned d v) x ≡ shows_at v (turned_element x)
   shown_turned x = look_renamed same_element element_tells false turned_element element_twice v.shown x
@@ -59,7 +59,7 @@ module _ (d : Bool) (v : Named) where
   seen_turned false l = lists_turned l
 
   member_back : (b : Bool) (x : Element) → member (turned d v) b (turned_element x) ≡ member v b x
-  member_back b x = ap (member_in b) (places_turned (turned_element x) ∙ ap (place_at v) (element_twice x))
+  member_back b x = ap (member_in b) (hooks_turned (turned_element x) ∙ ap (hook_at v) (element_twice x))
 
   members_back : (b : Bool) (l : ListName) → map (member v b) (seen_list v b (turned_list d l)) ≡ map (member (turned d v) b) (seen_list (turned d v) b l)
   members_back b l =
@@ -91,14 +91,14 @@ module _ (d : Bool) (v : Named) where
       is = i.is ∙ ap Some (members_back b l);
       name = owner_turned _ b l i.name;
     };
-    members = λ b x w at. let i = k.members b (turned_element x) w (sym (places_turned x) ∙ at) in record {
+    members = λ b x w at. let i = k.members b (turned_element x) w (sym (hooks_turned x) ∙ at) in record {
       tag = i.tag ∙ ap Some (number_turned x);
       name = who_turned _ b x i.name;
     };
-    loose = λ b x w at out. k.loose b (turned_element x) w (sym (places_turned x) ∙ at) (out_back b x out);
+    loose = λ b x w at out. k.loose b (turned_element x) w (sym (hooks_turned x) ∙ at) (out_back b x out);
     standing = λ l x i.
         let s = k.standing (turned_list d l) (turned_element x) (has_back x (list_at v (turned_list d l)) (subst (Has x) (lists_turned l) i)) in
-        (s.0, places_turned x ∙ s.1);
+        (s.0, hooks_turned x ∙ s.1);
     headed = λ l e. lists_turned l ∙ ap (map turned_element) (k.headed (turned_list d l) (sym (heads_turned l) ∙ e));
     apart = k.apart;
   }

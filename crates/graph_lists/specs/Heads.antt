@@ -4,8 +4,8 @@ use Rattle.graph_state.specs.declared.name.ListName.{ListName}
 use Rattle.graph_state.specs.declared.name.Element.{Element}
 use Rattle.graph_state.specs.Names.{Has}
 use Rattle.graph_lists.specs.declared.token.ListHead.{ListHead}
-use Rattle.graph_lists.specs.declared.token.Place.{Place}
-use Rattle.graph_lists.specs.Named.{Named, head_at, place_at, seen_list, pick_head, pick_member}
+use Rattle.graph_lists.specs.declared.token.Hook.{Hook}
+use Rattle.graph_lists.specs.Named.{Named, head_at, hook_at, seen_list, pick_head, pick_member}
 
 -- g is the head of the ring of the list: of all elements, or of those that show
 abbrev pub IsHeadOf : Named → Bool → ListName → ℕ → Type 0
@@ -13,7 +13,7 @@ IsHeadOf v b l g = (h : ListHead) × ((head_at v l ≡ Some h) × (pick_head b h
 
 -- m is the member of the element in one of the two rings
 abbrev pub IsMemberOf : Named → Bool → Element → ℕ → Type 0
-IsMemberOf v b x m = (w : Place) × ((place_at v x ≡ Some w) × (pick_member b w ≡ m))
+IsMemberOf v b x m = (w : Hook) × ((hook_at v x ≡ Some w) × (pick_member b w ≡ m))
 
 -- the member of what may be there
 abbrev pub Finds : Named → Bool → Option ℕ → Option Element → Type 0

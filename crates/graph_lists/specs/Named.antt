@@ -9,7 +9,7 @@ use Rattle.graph_state.specs.declared.name.Element.TheVariants.{Node, Edge, End}
 use Rattle.graph_state.specs.Names.{same_element, same_list, without}
 use Rattle.graph_state.specs.Beside.{beside}
 use Rattle.graph_lists.specs.declared.token.ListHead.{ListHead}
-use Rattle.graph_lists.specs.declared.token.Place.{Place}
+use Rattle.graph_lists.specs.declared.token.Hook.{Hook}
 use Rattle.graph_lists.specs.Table.{look, each}
 
 -- the heads of the lists, the members of the elements, what stands in each list, what shows, what
@@ -17,7 +17,7 @@ use Rattle.graph_lists.specs.Table.{look, each}
 -- shows where the flag is true
 pub record Named : Type 0 where
   pub heads : List (ListName × Option ListHead)
-  pub places : List (Element × Option Place)
+  pub hooks : List (Element × Option Hook)
   pub lists : List (ListName × List Element)
   pub shown : List (Element × Bool)
   pub loose : List Element
@@ -64,12 +64,12 @@ abbrev head_code : Coded ListHead
 head_code = code_by (ℕ × ℕ) (coded× coded_ℕ coded_ℕ) (λ h. (h.full, h.shown))
     (λ p. record { full = p.0; shown = p.1 }) (λ _. refl)
 
-abbrev place_code : Coded Place
-place_code = code_by (ℕ × ℕ) (coded× coded_ℕ coded_ℕ) (λ w. (w.full, w.shown))
+abbrev hook_code : Coded Hook
+hook_code = code_by (ℕ × ℕ) (coded× coded_ℕ coded_ℕ) (λ w. (w.full, w.shown))
     (λ p. record { full = p.0; shown = p.1 }) (λ _. refl)
 
 abbrev Tokens : Type 0
-Tokens = List (ListName × Option ListHead) × List (Element × Option Place)
+Tokens = List (ListName × Option ListHead) × List (Element × Option Hook)
 
 abbrev Content : Type 0
 Content = List (ListName × List Element) × (List (Element × Bool) × List Element)
@@ -80,15 +80,15 @@ Back = List (ℕ × Option (Bool × ListName)) × List (ℕ × Option (Bool × E
 abbrev pub named_code : Coded Named
 named_code = code_by (Tokens × (Content × Back))
     (coded× (coded× (coded_list (coded× list_code (coded_option head_code)))
-    (coded_list (coded× element_code (coded_option place_code))))
+    (coded_list (coded× element_code (coded_option hook_code))))
     (coded× (coded× (coded_list (coded× list_code (coded_list element_code)))
     (coded× (coded_list (coded× element_code coded_bool)) (coded_list element_code)))
     (coded× (coded_list (coded× coded_ℕ (coded_option (coded× coded_bool list_code))))
     (coded_list (coded× coded_ℕ (coded_option (coded× coded_bool element_code)))))))
-    (λ v. ((v.heads, v.places), ((v.lists, (v.shown, v.loose)), (v.owner, v.who))))
+    (λ v. ((v.heads, v.hooks), ((v.lists, (v.shown, v.loose)), (v.owner, v.who))))
     (λ p. record {
       heads = p.0.0;
-      places = p.0.1;
+      hooks = p.0.1;
       lists = p.1.0.0;
       shown = p.1.0.1.0;
       loose = p.1.0.1.1;
@@ -120,8 +120,8 @@ lists_code = code_by (Named × ((ℕ × ℕ) × (ℕ × ℕ)))
 abbrev pub head_at : Named → ListName → Option ListHead
 head_at v l = look same_list None v.heads l
 
-abbrev pub place_at : Named → Element → Option Place
-place_at v x = look same_element None v.places x
+abbrev pub hook_at : Named → Element → Option Hook
+hook_at v x = look same_element None v.hooks x
 
 -- what stands in a list, and whether an element shows
 abbrev pub list_at : Named → ListName → List Element
@@ -138,13 +138,13 @@ seen_list v b l = cond b (filter (shows_at v) (list_at v l)) (list_at v l)
 abbrev pub pick_head : Bool → ListHead → ℕ
 pick_head b h = cond b h.shown h.full
 
-abbrev pub pick_member : Bool → Place → ℕ
+abbrev pub pick_member : Bool → Hook → ℕ
 pick_member b w = cond b w.shown w.full
 
 abbrev pub nothing_named : Named
 nothing_named = record {
   heads = [];
-  places = [];
+  hooks = [];
   lists = [];
   shown = [];
   loose = [];
@@ -163,16 +163,16 @@ abbrev pub unlisted : ListName → Named → Named
 unlisted l v = record v { heads = (l, None) ∷ v.heads }
 
 -- an element is there, that shows but stands nowhere, and is gone
-abbrev pub placed : Element → Place → Named → Named
-placed x w v = record v {
-  places = (x, Some w) ∷ v.places;
+abbrev pub hooked : Element → Hook → Named → Named
+hooked x w v = record v {
+  hooks = (x, Some w) ∷ v.hooks;
   shown = (x, true) ∷ v.shown;
   loose = x ∷ v.loose;
   who = (w.shown, Some (true, x)) ∷ (w.full, Some (false, x)) ∷ v.who;
 }
 
-abbrev pub unplaced : Element → Named → Named
-unplaced x v = record v { places = (x, None) ∷ v.places; loose = without same_element x v.loose }
+abbrev pub unhooked : Element → Named → Named
+unhooked x v = record v { hooks = (x, None) ∷ v.hooks; loose = without same_element x v.loose }
 
 -- x stands at the end of the list, right beside y, or nowhere
 abbrev pub pushed : ListName → Element → Named → Named

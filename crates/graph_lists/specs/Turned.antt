@@ -17,7 +17,7 @@ element_owner o = (o.0, turned_element o.1)
 abbrev pub turned : Bool → Named → Named
 turned directed v = record {
   heads = renamed (turned_list directed) v.heads;
-  places = renamed turned_element v.places;
+  hooks = renamed turned_element v.hooks;
   lists = renamed (turned_list directed) (each (map turned_element) v.lists);
   shown = renamed turned_element v.shown;
   loose = map turned_element v.loose;

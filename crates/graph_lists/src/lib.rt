@@ -18,4 +18,4 @@ mod token;
 
 pub use item_ring::{Head, Member};
 pub use lists::Lists;
-pub use token::{ListHead, Place};
+pub use token::{Hook, ListHead};

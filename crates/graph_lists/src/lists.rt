@@ -1,18 +1,19 @@
 //! Lists by names.
 ghost use Rattle.std.specs.Prelude.{◌≡◌, ℕ, Bool, true, false, ◌+◌, ◌-◌, ◌*◌, ◌<◌, ◌≤◌, ◌↔◌, List, [], ◌∷◌, ◌++◌, Option, Some, None, length, OnOk};
 ghost use Rattle.std.specs.FinMap as map;
+ghost use Rattle.item_ring.specs.declared.rings.TheConstants.{MOST_NODES};
 ghost use Rattle.item_ring.specs.RingLists as ring;
 ghost use Rattle.item_ring.specs.RingLists.{IsHead, IsLoose};
 ghost use Rattle.graph_state.specs.declared.name.ListName.{ListName};
 ghost use Rattle.graph_state.specs.declared.name.Element.{Element};
 ghost use Rattle.graph_state.specs.Names.{Has, number, first_of, last_of};
-ghost use Rattle.graph_lists.specs.Named.{head_at, place_at, list_at, shows_at, seen_list, nothing_named, listed, unlisted, placed, unplaced, pushed, put_beside, unlinked, marked, SameRoom, Leaves, IsFirstShown, IsNextShown};
+ghost use Rattle.graph_lists.specs.Named.{head_at, hook_at, list_at, shows_at, seen_list, nothing_named, listed, unlisted, hooked, unhooked, pushed, put_beside, unlinked, marked, SameRoom, Leaves, IsFirstShown, IsNextShown};
 ghost use Rattle.graph_lists.specs.Heads.{IsHeadOf, IsMemberOf, IsLinked, Finds};
 ghost use Rattle.graph_lists.specs.Turned.{turned};
 ghost use Rattle.graph_lists.specs.Steps.{AddsHead, AddsMember, PushesIf, PutsBeside, UnlinksIf};
 
 use crate::seen::{NamedView, show, show_beside, show_element, show_list, show_mark, show_turn};
-use crate::token::{ListHead, Place};
+use crate::token::{Hook, ListHead};
 use graph_state::{Element, ListName, Side};
 use item_ring::{Head, Member, Rings};
 use leda_base::{NoMemory, Seen};
@@ -55,7 +56,7 @@ fn number(x: Element) -> u32
 /// A new head, from those that are spare.
 fn add_head(rings: &mut Rings) -> Head
     requires spare { 0 < rings.old.spare_heads }
-    requires few { map.len rings.old.rings < 16777215 }
+    requires few { map.len rings.old.rings < MOST_NODES }
     ensures { AddsHead rings.old rings.new result }
 {
     let Ok(head) = rings.add_head() else {
@@ -67,7 +68,7 @@ fn add_head(rings: &mut Rings) -> Head
 /// A new member, from those that are spare.
 fn add_member(rings: &mut Rings, tag: u32) -> Member
     requires spare { 0 < rings.old.spare_members }
-    requires few { map.len rings.old.tags < 16777215 }
+    requires few { map.len rings.old.tags < MOST_NODES }
     ensures { AddsMember rings.old rings.new result tag }
 {
     let Ok(member) = rings.add_member(tag) else {
@@ -127,8 +128,8 @@ impl Lists {
     ///
     /// `NoMemory` where there is no memory. All is then as before.
     pub fn reserve(&mut self, lists: u32, elements: u32) -> Result<(), NoMemory>
-        requires lists { self.old.heads + 2 * lists ≤ 16777215 }
-        requires elements { self.old.members + 2 * elements ≤ 16777215 }
+        requires lists { self.old.heads + 2 * lists ≤ MOST_NODES }
+        requires elements { self.old.members + 2 * elements ≤ MOST_NODES }
         ensures lists { OnOk result (2 * lists ≤ self.new.spare_heads) }
         ensures elements { OnOk result (2 * elements ≤ self.new.spare_members) }
         ensures named { self.new.named ≡ self.old.named }
@@ -143,7 +144,7 @@ impl Lists {
     /// A new list, with nothing in it.
     pub fn add_list(&mut self, list: ListName) -> ListHead
         requires spare { 2 ≤ self.old.spare_heads }
-        requires few { self.old.heads + 2 ≤ 16777215 }
+        requires few { self.old.heads + 2 ≤ MOST_NODES }
         requires fresh { head_at self.old.named list ≡ None }
         ensures named { self.new.named ≡ listed list result self.old.named }
         ensures heads { (self.new.heads ≡ self.old.heads + 2)
@@ -159,11 +160,11 @@ impl Lists {
     }
 
     /// A new element, which shows, but stands in no list.
-    pub fn add_element(&mut self, x: Element) -> Place
+    pub fn add_element(&mut self, x: Element) -> Hook
         requires spare { 2 ≤ self.old.spare_members }
-        requires few { self.old.members + 2 ≤ 16777215 }
-        requires fresh { place_at self.old.named x ≡ None }
-        ensures named { self.new.named ≡ placed x result self.old.named }
+        requires few { self.old.members + 2 ≤ MOST_NODES }
+        requires fresh { hook_at self.old.named x ≡ None }
+        ensures named { self.new.named ≡ hooked x result self.old.named }
         ensures members { (self.new.members ≡ self.old.members + 2)
             × (self.new.spare_members + 2 ≡ self.old.spare_members) }
         ensures heads { (self.new.heads ≡ self.old.heads)
@@ -171,9 +172,9 @@ impl Lists {
     {
         let full = add_member(&mut self.rings, number(x));
         let shown = add_member(&mut self.rings, number(x));
-        let place = Place { full, shown };
-        show_element(&mut self.seen, x, &place);
-        place
+        let hook = Hook { full, shown };
+        show_element(&mut self.seen, x, &hook);
+        hook
     }
 
     /// The element, which stands nowhere, goes to the end of the list. `shows` says whether it
@@ -183,72 +184,72 @@ impl Lists {
         list: ListName,
         head: &ListHead,
         x: Element,
-        place: &Place,
+        hook: &Hook,
         shows: bool,
     )
         requires head { head_at self.old.named list ≡ Some head.now }
-        requires place { place_at self.old.named x ≡ Some place.now }
+        requires hook { hook_at self.old.named x ≡ Some hook.now }
         requires loose { Has x self.old.named.loose }
         requires shows { shows ≡ shows_at self.old.named x }
         ensures named { self.new.named ≡ pushed list x self.old.named }
         ensures room { SameRoom self.old self.new }
     {
-        self.rings.push_back(head.full, place.full);
-        push_shown(&mut self.rings, head.shown, place.shown, shows);
+        self.rings.push_back(head.full, hook.full);
+        push_shown(&mut self.rings, head.shown, hook.shown, shows);
         show(&mut self.seen, list, x, x);
     }
 
     /// The element, which shows and stands nowhere, goes next to `y`, which shows too, on that side
     /// of it.
-    pub fn put_beside(&mut self, side: Side, y: Element, beside: &Place, x: Element, place: &Place)
-        requires beside { place_at self.old.named y ≡ Some beside.now }
+    pub fn put_beside(&mut self, side: Side, y: Element, beside: &Hook, x: Element, hook: &Hook)
+        requires beside { hook_at self.old.named y ≡ Some beside.now }
         requires there { (l : ListName) × Has y (list_at self.old.named l) }
-        requires place { place_at self.old.named x ≡ Some place.now }
+        requires hook { hook_at self.old.named x ≡ Some hook.now }
         requires loose { Has x self.old.named.loose }
         requires shows { (shows_at self.old.named y ≡ true) × (shows_at self.old.named x ≡ true) }
         ensures named { self.new.named ≡ put_beside side y x self.old.named }
         ensures room { SameRoom self.old self.new }
     {
-        insert_beside(&mut self.rings, side, beside.full, place.full);
-        insert_beside(&mut self.rings, side, beside.shown, place.shown);
+        insert_beside(&mut self.rings, side, beside.full, hook.full);
+        insert_beside(&mut self.rings, side, beside.shown, hook.shown);
         show_beside(&mut self.seen, side, x, y);
     }
 
     /// The element leaves its list. It stands nowhere from here on.
-    pub fn unlink(&mut self, x: Element, place: &Place)
-        requires place { place_at self.old.named x ≡ Some place.now }
+    pub fn unlink(&mut self, x: Element, hook: &Hook)
+        requires hook { hook_at self.old.named x ≡ Some hook.now }
         requires there { (l : ListName) × Has x (list_at self.old.named l) }
         ensures named { self.new.named ≡ unlinked x self.old.named }
         ensures leaves { Leaves self.old.named self.new.named x }
         ensures room { SameRoom self.old self.new }
     {
-        self.rings.unlink(place.full);
-        unlink_shown(&mut self.rings, place.shown);
+        self.rings.unlink(hook.full);
+        unlink_shown(&mut self.rings, hook.shown);
         show(&mut self.seen, ListName::Nodes, x, x);
     }
 
     /// The element, which shows, doesn't from here on. It stays where it stands.
-    pub fn hide(&mut self, x: Element, place: &Place)
-        requires place { place_at self.old.named x ≡ Some place.now }
+    pub fn hide(&mut self, x: Element, hook: &Hook)
+        requires hook { hook_at self.old.named x ≡ Some hook.now }
         requires there { (l : ListName) × Has x (list_at self.old.named l) }
         requires shows { shows_at self.old.named x ≡ true }
         ensures named { self.new.named ≡ marked false x self.old.named }
         ensures room { SameRoom self.old self.new }
     {
-        self.rings.unlink(place.shown);
+        self.rings.unlink(hook.shown);
         show_mark(&mut self.seen, x, false);
     }
 
     /// The element, which doesn't show, shows from here on, as the first in its list.
-    pub fn show_first(&mut self, list: ListName, head: &ListHead, x: Element, place: &Place)
+    pub fn show_first(&mut self, list: ListName, head: &ListHead, x: Element, hook: &Hook)
         requires head { head_at self.old.named list ≡ Some head.now }
-        requires place { place_at self.old.named x ≡ Some place.now }
+        requires hook { hook_at self.old.named x ≡ Some hook.now }
         requires first { IsFirstShown self.old.named list x }
         requires hidden { shows_at self.old.named x ≡ false }
         ensures named { self.new.named ≡ marked true x self.old.named }
         ensures room { SameRoom self.old self.new }
     {
-        self.rings.push_front(head.shown, place.shown);
+        self.rings.push_front(head.shown, hook.shown);
         show_mark(&mut self.seen, x, true);
     }
 
@@ -257,31 +258,31 @@ impl Lists {
         &mut self,
         list: ListName,
         y: Element,
-        beside: &Place,
+        beside: &Hook,
         x: Element,
-        place: &Place,
+        hook: &Hook,
     )
-        requires beside { place_at self.old.named y ≡ Some beside.now }
-        requires place { place_at self.old.named x ≡ Some place.now }
+        requires beside { hook_at self.old.named y ≡ Some beside.now }
+        requires hook { hook_at self.old.named x ≡ Some hook.now }
         requires next { IsNextShown self.old.named list y x }
         requires hidden { shows_at self.old.named x ≡ false }
         ensures named { self.new.named ≡ marked true x self.old.named }
         ensures room { SameRoom self.old self.new }
     {
-        self.rings.insert_after(beside.shown, place.shown);
+        self.rings.insert_after(beside.shown, hook.shown);
         show_mark(&mut self.seen, x, true);
     }
 
     /// The element, which stands nowhere, is gone.
-    pub fn drop_element(&mut self, x: Element, place: &Place)
-        requires place { place_at self.old.named x ≡ Some place.now }
+    pub fn drop_element(&mut self, x: Element, hook: &Hook)
+        requires hook { hook_at self.old.named x ≡ Some hook.now }
         requires loose { Has x self.old.named.loose }
-        ensures named { self.new.named ≡ unplaced x self.old.named }
+        ensures named { self.new.named ≡ unhooked x self.old.named }
         ensures members { self.new.members + 2 ≡ self.old.members }
         ensures heads { self.new.heads ≡ self.old.heads }
     {
-        self.rings.drop_member(place.full);
-        self.rings.drop_member(place.shown);
+        self.rings.drop_member(hook.full);
+        self.rings.drop_member(hook.shown);
         show(&mut self.seen, ListName::Nodes, x, x);
     }
 
@@ -310,12 +311,12 @@ impl Lists {
     }
 
     /// Whether the element, which stands in a list, shows.
-    pub fn is_shown(&self, x: Element, place: &Place) -> bool
-        requires place { place_at self.now.named x ≡ Some place.now }
+    pub fn is_shown(&self, x: Element, hook: &Hook) -> bool
+        requires hook { hook_at self.now.named x ≡ Some hook.now }
         requires there { (l : ListName) × Has x (list_at self.now.named l) }
         ensures { result ≡ shows_at self.now.named x }
     {
-        self.rings.is_linked(place.shown)
+        self.rings.is_linked(hook.shown)
     }
 
     /// The number of the element that the member is of.

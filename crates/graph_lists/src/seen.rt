@@ -2,7 +2,7 @@
 ghost use Rattle.std.specs.Prelude.{◌≡◌};
 ghost use Rattle.graph_lists.specs.Named.{Named};
 
-use crate::token::{ListHead, Place};
+use crate::token::{Hook, ListHead};
 use graph_state::{Element, ListName, Side};
 use leda_base::Seen;
 use std::marker::Model;
@@ -38,7 +38,7 @@ pub(crate) fn show_list(seen: &mut Seen<NamedView>, list: ListName, head: &ListH
 }
 
 /// Likewise, where an element comes.
-pub(crate) fn show_element(seen: &mut Seen<NamedView>, x: Element, place: &Place)
+pub(crate) fn show_element(seen: &mut Seen<NamedView>, x: Element, hook: &Hook)
     ghost to: { Named }
     ensures { seen.new.view ≡ to }
 {

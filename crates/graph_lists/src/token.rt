@@ -9,10 +9,10 @@ pub struct ListHead {
     pub shown: Head,
 }
 
-/// The members of an element: that in the ring of all elements, and that in the ring of those that
-/// show.
+/// What an element is in its list by (a hook, as intrusive lists call it): its member of the ring of
+/// all elements, and that of the ring of those that show.
 #[derive(Clone, Copy, Drop)]
-pub struct Place {
+pub struct Hook {
     pub full: Member,
     pub shown: Member,
 }

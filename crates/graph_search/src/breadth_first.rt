@@ -1,5 +1,6 @@
 //! A breadth first search from one node, over rows of what leads on from each node.
 ghost use Rattle.std.specs.Prelude.{◌≡◌, ℕ, ◌+◌, ◌-◌, ◌^◌, ◌<◌, ◌≤◌, ◌++◌, ◌∷◌, [], true, false, length, slice_set, replicate, vec_len, IfOk, OnOk, MatchBool};
+ghost use Rattle.graph_defs.specs.declared.net.TheConstants.{NODE_LIMIT};
 ghost use Rattle.graph_defs.specs.declared.net.Net.{Net};
 ghost use Rattle.graph_defs.specs.Walk.{IsWalk};
 ghost use Rattle.graph_defs.specs.Grouped.{grouped};
@@ -141,7 +142,7 @@ pub fn walk_to(alloc: Global, queue: &[Found], place: usize) -> Result<Row<u32>,
 
 // The visited nodes in the order of the nodes.
 pub fn visited_nodes(alloc: Global, visited: &[bool]) -> Result<Row<u32>, NoMemory>
-    requires { length visited.now ≤ 100000 }
+    requires { length visited.now ≤ NODE_LIMIT }
     ensures { IfOk result (λ nodes. nodes ≡ nodes_visited visited.now) }
 {
     let mut nodes = Row::new(alloc);

@@ -1,5 +1,6 @@
 -- The graph that a plain graph describes, in place of another one.
 use Rattle.std.specs.Prelude.{ℕ, ◌+◌, ◌≤◌, nat_lt, if◌then◌else◌, List, [], ◌∷◌, length, codes, bytes_eq, Option, Some, None}
+use Rattle.item_pool.specs.declared.pool.TheConstants.{MOST_SERIALS}
 use Rattle.graph_defs.specs.declared.plain.PlainEdge.{PlainEdge}
 use Rattle.graph_defs.specs.declared.plain.PlainGraph.{PlainGraph}
 use Rattle.graph_state.specs.declared.refusal.EditRefusal.{EditRefusal}
@@ -46,8 +47,8 @@ built g nodes edges =
 
 -- there are numbers for its nodes and edges
 abbrev pub HasNumbers : PlainGraph → GraphState → Type 0
-HasNumbers g s = (s.made_nodes + length g.nodes ≤ 16777215)
-    × (s.made_edges + length g.edges ≤ 16777215)
+HasNumbers g s = (s.made_nodes + length g.nodes ≤ MOST_SERIALS)
+    × (s.made_edges + length g.edges ≤ MOST_SERIALS)
 
 -- why it doesn't take the place of the graph
 abbrev pub RefusesPlain : PlainGraph → GraphState → EditRefusal → Type 0

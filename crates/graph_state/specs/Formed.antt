@@ -2,6 +2,9 @@
 use Rattle.std.specs.Prelude.{◌≡◌, ℕ, ◌<◌, ◌≤◌, true, false, ◌⊎◌, List, [], length, Some}
 use Rattle.std.specs.FinMap as map
 use Rattle.std.specs.FinSet as set
+use Rattle.graph_defs.specs.declared.net.TheConstants.{NODE_LIMIT, ARC_LIMIT}
+use Rattle.leda_base.specs.declared.name.TheConstants.{LABEL_LIMIT}
+use Rattle.item_pool.specs.declared.pool.TheConstants.{MOST_SERIALS}
 use Rattle.graph_defs.specs.Plain.{IsTypeName, is_void}
 use Rattle.graph_state.specs.declared.name.ListName.{ListName}
 use Rattle.graph_state.specs.declared.name.Element.{Element}
@@ -10,7 +13,7 @@ use Rattle.graph_state.specs.Names.{Has, IsOnce, list_of, IsLive, home}
 
 -- at most 60,000 bytes, and no line feed
 pub record IsLabel (label : List ℕ) : Type 0 where
-  pub few : length label ≤ 60000
+  pub few : length label ≤ LABEL_LIMIT
   pub line : Has 10 label → ⊥
 
 -- a type of labels: without bytes, which stands for `void`, or another type name of a file
@@ -41,6 +44,6 @@ pub record IsFormed (s : GraphState) : Type 0 where
   pub given_edges : (e : ℕ) → Has e s.edges → (0 < e) × (e ≤ s.made_edges)
   pub node_labels : (v : ℕ) (label : List ℕ) → map.get s.node_labels v ≡ Some label → IsLabel label
   pub edge_labels : (e : ℕ) (label : List ℕ) → map.get s.edge_labels e ≡ Some label → IsLabel label
-  pub few : (length s.nodes ≤ 100000) × (length s.edges ≤ 400000)
-  pub made : (s.made_nodes ≤ 16777215) × (s.made_edges ≤ 16777215)
+  pub few : (length s.nodes ≤ NODE_LIMIT) × (length s.edges ≤ ARC_LIMIT)
+  pub made : (s.made_nodes ≤ MOST_SERIALS) × (s.made_edges ≤ MOST_SERIALS)
   pub types : IsKeptType s.node_type × IsKeptType s.edge_type

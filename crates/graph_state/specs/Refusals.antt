@@ -1,5 +1,7 @@
 -- When an edit or a look is refused, by the items that it names.
 use Rattle.std.specs.Prelude.{◌≡◌, ℕ, ◌<◌, ◌⊎◌, Bool, true, false, List, [], ◌∷◌, length}
+use Rattle.graph_defs.specs.declared.net.TheConstants.{NODE_LIMIT, ARC_LIMIT}
+use Rattle.item_pool.specs.declared.pool.TheConstants.{MOST_SERIALS}
 use Rattle.item_pool.specs.Contents.{WhyGone}
 use Rattle.item_pool.specs.declared.pool.Gone.{Gone}
 use Rattle.leda_base.specs.declared.name.ItemName.{ItemName}
@@ -63,21 +65,21 @@ IsGoneOf s x (looks.Hidden y) = ⊥
 -- a new node, or a new edge, can be made
 pub record HasRoom (count most made : ℕ) : Type 0 where
   pub few : count < most
-  pub more : made < 16777215
+  pub more : made < MOST_SERIALS
 
 abbrev pub NodeRoom : GraphState → Type 0
-NodeRoom s = HasRoom (length s.nodes) 100000 s.made_nodes
+NodeRoom s = HasRoom (length s.nodes) NODE_LIMIT s.made_nodes
 
 abbrev pub EdgeRoom : GraphState → Type 0
-EdgeRoom s = HasRoom (length s.edges) 400000 s.made_edges
+EdgeRoom s = HasRoom (length s.edges) ARC_LIMIT s.made_edges
 
 -- why no node is made
 abbrev pub RefusesNode : GraphState → EditRefusal → Type 0
 RefusesNode s (edits.Gone x why) = ⊥
 RefusesNode s (edits.Hidden x) = ⊥
-RefusesNode s edits.FullNodes = length s.nodes ≡ 100000
+RefusesNode s edits.FullNodes = length s.nodes ≡ NODE_LIMIT
 RefusesNode s edits.FullEdges = ⊥
-RefusesNode s edits.Spent = (length s.nodes < 100000) × (s.made_nodes ≡ 16777215)
+RefusesNode s edits.Spent = (length s.nodes < NODE_LIMIT) × (s.made_nodes ≡ MOST_SERIALS)
 RefusesNode s edits.NoMemory = NodeRoom s
 
 -- why no edge is made beside the items
@@ -85,9 +87,9 @@ abbrev pub RefusesEdge : GraphState → List ItemName → EditRefusal → Type 0
 RefusesEdge s xs (edits.Gone x why) = RefusesLook s xs (looks.Gone x why)
 RefusesEdge s xs (edits.Hidden x) = RefusesLook s xs (looks.Hidden x)
 RefusesEdge s xs edits.FullNodes = ⊥
-RefusesEdge s xs edits.FullEdges = AreVisible s xs × (length s.edges ≡ 400000)
-RefusesEdge s xs edits.Spent = AreVisible s xs × (length s.edges < 400000)
-    × (s.made_edges ≡ 16777215)
+RefusesEdge s xs edits.FullEdges = AreVisible s xs × (length s.edges ≡ ARC_LIMIT)
+RefusesEdge s xs edits.Spent = AreVisible s xs × (length s.edges < ARC_LIMIT)
+    × (s.made_edges ≡ MOST_SERIALS)
 RefusesEdge s xs edits.NoMemory = AreVisible s xs × EdgeRoom s
 
 -- why a list of the items isn't given
@@ -103,15 +105,15 @@ RefusesList s xs edits.NoMemory = AreVisible s xs
 abbrev pub FullNode : GraphState → EditRefusal → Type 0
 FullNode s (edits.Gone x why) = ⊥
 FullNode s (edits.Hidden x) = ⊥
-FullNode s edits.FullNodes = length s.nodes ≡ 100000
+FullNode s edits.FullNodes = length s.nodes ≡ NODE_LIMIT
 FullNode s edits.FullEdges = ⊥
-FullNode s edits.Spent = (length s.nodes < 100000) × (s.made_nodes ≡ 16777215)
+FullNode s edits.Spent = (length s.nodes < NODE_LIMIT) × (s.made_nodes ≡ MOST_SERIALS)
 FullNode s edits.NoMemory = ⊥
 
 abbrev pub FullEdge : GraphState → EditRefusal → Type 0
 FullEdge s (edits.Gone x why) = ⊥
 FullEdge s (edits.Hidden x) = ⊥
 FullEdge s edits.FullNodes = ⊥
-FullEdge s edits.FullEdges = length s.edges ≡ 400000
-FullEdge s edits.Spent = (length s.edges < 400000) × (s.made_edges ≡ 16777215)
+FullEdge s edits.FullEdges = length s.edges ≡ ARC_LIMIT
+FullEdge s edits.Spent = (length s.edges < ARC_LIMIT) × (s.made_edges ≡ MOST_SERIALS)
 FullEdge s edits.NoMemory = ⊥

@@ -1,5 +1,6 @@
 //! Where numbers stand in a list.
 ghost use Rattle.std.specs.Prelude.{◌≡◌, ℕ, ◌≤◌, ◌<◌, length, All, IfOk, MatchOption};
+ghost use Rattle.graph_defs.specs.declared.net.TheConstants.{ARC_LIMIT};
 ghost use Rattle.graph_state.specs.Names.{Has, IsOnce};
 ghost use Rattle.hide_restore.specs.Net.{numbers_of_nodes, place_of, HavePlaces};
 
@@ -41,7 +42,7 @@ impl Places {
     pub fn of(alloc: Global, most: u32, nodes: &[NodeItem]) -> Result<Places, NoMemory>
         requires most { (v : ℕ) → Has v (numbers_of_nodes nodes.now) → v ≤ most }
         requires once { IsOnce (numbers_of_nodes nodes.now) }
-        requires few { length nodes.now ≤ 400000 }
+        requires few { length nodes.now ≤ ARC_LIMIT }
         ensures { IfOk result (λ places. places ≡ numbers_of_nodes nodes.now) }
     {
         Places::of_numbers(alloc, most, numbers_of(alloc, nodes)?)
@@ -56,7 +57,7 @@ impl Places {
     pub fn of_numbers(alloc: Global, most: u32, numbers: Row<u32>) -> Result<Places, NoMemory>
         requires most { (v : ℕ) → Has v numbers → v ≤ most }
         requires once { IsOnce numbers }
-        requires few { length numbers ≤ 400000 }
+        requires few { length numbers ≤ ARC_LIMIT }
         ensures { IfOk result (λ places. places ≡ numbers) }
     {
         let numbers = numbers.into_vec();
@@ -100,7 +101,7 @@ fn numbers_of(alloc: Global, nodes: &[NodeItem]) -> Result<Row<u32>, NoMemory>
 fn table_of(alloc: Global, most: u32, numbers: &[u32]) -> Result<Vec<u32>, NoMemory>
     requires most { All (λ v. v ≤ most) numbers.now }
     requires once { IsOnce numbers.now }
-    requires few { length numbers.now ≤ 400000 }
+    requires few { length numbers.now ≤ ARC_LIMIT }
     ensures { IfOk result (λ table.
         HavePlaces numbers.now most (length numbers.now) table.items) }
 {

@@ -3,6 +3,7 @@ ghost use Rattle.std.specs.Prelude.{◌≡◌, ◌+◌, ◌*◌, ◌<◌, ◌≤
 ghost use Rattle.std.specs.Borrow.{sem};
 ghost use Rattle.item_pool.specs.Chained.{blank, chained};
 ghost use Rattle.item_pool.specs.Joined.{LiesAt};
+ghost use Rattle.item_pool.specs.declared.cells.TheConstants.{FIRST_BLOCK};
 
 use crate::block::{Block, Cell};
 use std::alloc::{AllocError, Global};
@@ -31,7 +32,7 @@ impl<T> Model for Cells<T> {
 
     ghost view = { λ c. joined c.blocks.items };
 
-    ghost invariant = { λ c. AreBlocks 64 c.blocks.items };
+    ghost invariant = { λ c. AreBlocks FIRST_BLOCK c.blocks.items };
 }
 
 /// Where a slot lies: the number of its block, and its place there. Before a block there are 64
@@ -85,9 +86,9 @@ impl<T> Cells<T> {
     /// cells more than the `len` that there are. The chain from `next` on has `free` cells.
     pub(crate) fn grow(&mut self, len: u32, free: u32, next: u32) -> Result<(), AllocError>
         requires len { len ≡ length self.old }
-        requires slots { len + (len + 64) < 2 ^ 32 }
-        requires numbers { free + (len + 64) < 2 ^ 32 }
-        ensures ok { OnOk result (self.new ≡ self.old ++ chained (len + 64) len free next) }
+        requires slots { len + (len + FIRST_BLOCK) < 2 ^ 32 }
+        requires numbers { free + (len + FIRST_BLOCK) < 2 ^ 32 }
+        ensures ok { OnOk result (self.new ≡ self.old ++ chained (len + FIRST_BLOCK) len free next) }
         ensures err { OnErr result (self.new ≡ self.old) }
     {
         self.blocks.reserve(1)?;

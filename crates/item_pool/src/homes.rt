@@ -3,6 +3,7 @@ ghost use Rattle.std.specs.Prelude.{◌≡◌, ℕ, ◌+◌, ◌*◌, ◌%◌, �
 ghost use Rattle.std.specs.Int.{IsPowerOfTwo};
 ghost use Rattle.item_pool.specs.Homes.{at_home, settled, IsFree, AreFree, StayFree};
 ghost use Rattle.item_pool.specs.Lookups.{Sets};
+ghost use Rattle.item_pool.specs.declared.homes.TheConstants.{FIRST_HOMES};
 
 use std::alloc::{AllocError, Global};
 use std::marker::Model;
@@ -156,7 +157,7 @@ impl Homes {
         ensures free { StayFree self.old self.new }
         ensures ok { OnOk result
             (length self.new
-            ≡ (if nat_eq (length self.old) 0 then 64 else 2 * length self.old)) }
+            ≡ (if nat_eq (length self.old) 0 then FIRST_HOMES else 2 * length self.old)) }
     {
         if self.places.is_empty() {
             self.places.resize(FIRST_HOMES, NOBODY)

@@ -1,5 +1,5 @@
 -- Heads and members are made and ended, and all holds again.
-use Rattle.std.proofs.Common.{◌≡◌, ℕ, ◌+◌, ◌-◌, ◌<◌, ◌≤◌, ◌^◌, suc, true, false, cond, List, [], ◌∷◌, length, Some, None, is_some, refl, sym, ap, subst, ◌∙◌, inl, inr, arith, eqb}
+use Rattle.std.proofs.Common.{◌≡◌, ℕ, ◌+◌, ◌-◌, ◌<◌, ◌≤◌, suc, true, false, cond, List, [], ◌∷◌, length, Some, None, is_some, refl, sym, ap, subst, ◌∙◌, inl, inr, arith, eqb}
 use Rattle.std.proofs.lemmas.Bool.{cases_eq}
 use Rattle.std.proofs.lemmas.Bool.Decides.{eqb_tells}
 use Rattle.std.specs.FinMap as map
@@ -14,7 +14,7 @@ use Rattle.item_ring.specs.declared.rings.Rings.TheInside.{Inside}
 use Rattle.leda_base.specs.declared.Seen.{Seen}
 use Rattle.item_ring.specs.Nodes.{Slots, cell_at, next_of, ring_of, value_of, state_of, Edits}
 use Rattle.item_ring.specs.RingLists.{IsIn, list_in}
-use Rattle.item_ring.specs.AreRings.{is_head, is_member, tail, IsRing, AreRings, IsChain, IsFree, IsStocked, Claimed}
+use Rattle.item_ring.specs.AreRings.{is_head, is_member, tail, IsRing, AreRings, IsChain, IsFree, IsStocked, Claimed, most_slots}
 use Rattle.item_ring.specs.RingsHold.{RingsHold}
 use Rattle.item_ring.specs.View.{View}
 use Rattle.item_ring.specs.Turns.{headed, membered, member_gone, head_gone}
@@ -31,7 +31,7 @@ has_some m k e = elim (cases_eq (map.len m) 0) [
   | inr some ↦ omega (arith, some)
 ]
 
-grown_stock : (v w : Slots) (s : View) (free sh sm : ℕ) → IsStocked v s free sh sm → w.len ≡ v.len → v.room ≤ w.room → (v.room ≤ 2 ^ 26 → w.room ≤ 2 ^ 26) → IsStocked w s free sh sm
+grown_stock : (v w : Slots) (s : View) (free sh sm : ℕ) → IsStocked v s free sh sm → w.len ≡ v.len → v.room ≤ w.room → (v.room ≤ most_slots → w.room ≤ most_slots) → IsStocked w s free sh sm
 grown_stock v w s free sh sm st len more small = record {
   total = st.total ∙ sym len;
   reserved = let r = st.reserved in omega (arith, r, len, more);
@@ -46,7 +46,7 @@ pub record IsGrown (v w : Slots) : Type 0 where
   pub cells : (k : ℕ) → cell_at w k ≡ cell_at v k
   pub len : w.len ≡ v.len
   pub more : v.room ≤ w.room
-  pub small : v.room ≤ 2 ^ 26 → w.room ≤ 2 ^ 26
+  pub small : v.room ≤ most_slots → w.room ≤ most_slots
 
 module _ (a : Inside) (inv : RingsHold a) (g : Slots) (gr : IsGrown a.nodes g) where
   abbrev s : View

@@ -59,12 +59,16 @@ pub record IsFree (v : Slots) (first count : ℕ) (js : List ℕ) : Type 0 where
   pub distinct : IsDistinct js
   pub counted : count ≡ length js
 
+-- how many slots there can be: those of the heads and the members, and of some blocks more
+abbrev pub most_slots : ℕ
+most_slots = 2 ^ 26
+
 -- slots that are set aside are there, and no limit is passed
 pub record IsStocked (v : Slots) (s : View) (count spare_heads spare_members : ℕ) : Type 0 where
   pub total : map.len s.rings + map.len s.tags + count ≡ v.len
   pub reserved : spare_heads + spare_members + v.len ≤ count + v.room
   pub within : v.len ≤ v.room
-  pub small : v.room ≤ 2 ^ 26
+  pub small : v.room ≤ most_slots
   pub few_heads : map.len s.rings + spare_heads ≤ MOST_NODES
   pub few_members : map.len s.tags + spare_members ≤ MOST_NODES
 

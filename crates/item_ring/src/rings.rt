@@ -1,9 +1,9 @@
 //! Heads and members: each head stands for a ring of members.
-ghost use Rattle.std.specs.Prelude.{◌≡◌, cond, ◌==◌, false, ◌⊎◌, ◌≤◌, true, ℕ, ◌<◌, ◌↔◌, ◌+◌, List, [], ◌∷◌, ◌++◌, Some, None, length, min, ◌^◌, ◌-◌, IsOk, IfOk, IfErr, OnErr, unwrap_or};
+ghost use Rattle.std.specs.Prelude.{◌≡◌, cond, ◌==◌, false, ◌⊎◌, ◌≤◌, true, ℕ, ◌<◌, ◌↔◌, ◌+◌, List, [], ◌∷◌, ◌++◌, Some, None, length, min, ◌-◌, IsOk, IfOk, IfErr, OnErr, unwrap_or};
 ghost use Rattle.std.specs.Option.{ForSome};
 ghost use Rattle.std.specs.FinMap as map;
 ghost use Rattle.item_ring.specs.RingLists.{IsIn, IsHead, IsLinked, IsLinkedIn, IsLoose, AreApart, StandsBetween, ring, front, back, unless_equal, without, with_after, with_before};
-ghost use Rattle.item_ring.specs.AreRings.{Claimed, IsFree};
+ghost use Rattle.item_ring.specs.AreRings.{Claimed, IsFree, most_slots};
 ghost use Rattle.item_ring.specs.Nodes.{cell_at};
 ghost use Rattle.item_ring.specs.Turns.{with_behind};
 
@@ -481,7 +481,7 @@ fn claim(
     requires chain { IsFree nodes.old first_free.old free.old seen.now.view.free }
     requires room { nodes.old.len < free.old + nodes.old.room }
     requires within { nodes.old.len ≤ nodes.old.room }
-    requires small { nodes.old.room ≤ 2 ^ 26 }
+    requires small { nodes.old.room ≤ most_slots }
     ensures { Claimed nodes.old nodes.new first_free.new free.old free.new seen.now.view.free result
         value
         state }
@@ -501,10 +501,10 @@ fn claim(
 
 /// Grows until there are so many slots.
 fn grow_to(nodes: &mut Nodes, alloc: Global, slots: u32) -> Result<(), AllocError>
-    requires { slots ≤ 2 ^ 26 - BLOCK }
+    requires { slots ≤ most_slots - BLOCK }
     ensures room { IfOk result (λ _. slots ≤ nodes.new.room) }
     ensures more { nodes.old.room ≤ nodes.new.room }
-    ensures small { nodes.old.room ≤ 2 ^ 26 → nodes.new.room ≤ 2 ^ 26 }
+    ensures small { nodes.old.room ≤ most_slots → nodes.new.room ≤ most_slots }
     ensures len { nodes.new.len ≡ nodes.old.len }
     ensures cells { (k : ℕ) → cell_at nodes.new k ≡ cell_at nodes.old k }
 {
@@ -516,12 +516,12 @@ fn grow_to(nodes: &mut Nodes, alloc: Global, slots: u32) -> Result<(), AllocErro
 
 /// What is left of the spare number when one is used. Where none is spare it makes room.
 fn use_spare(nodes: &mut Nodes, alloc: Global, spare: u32, slots: u32) -> Result<u32, AllocError>
-    requires { slots ≤ 2 ^ 26 - BLOCK }
+    requires { slots ≤ most_slots - BLOCK }
     ensures left { IfOk result (λ left. left ≡ spare - 1) }
     ensures room { IfOk result (λ _. spare ≡ 0 → slots ≤ nodes.new.room) }
     ensures sure { 0 < spare → IsOk result }
     ensures more { nodes.old.room ≤ nodes.new.room }
-    ensures small { nodes.old.room ≤ 2 ^ 26 → nodes.new.room ≤ 2 ^ 26 }
+    ensures small { nodes.old.room ≤ most_slots → nodes.new.room ≤ most_slots }
     ensures len { nodes.new.len ≡ nodes.old.len }
     ensures cells { (k : ℕ) → cell_at nodes.new k ≡ cell_at nodes.old k }
 {

@@ -1,5 +1,6 @@
 //! Whether labels cover every arc, and the size of the cover.
 ghost use Rattle.std.specs.Prelude.{◌≡◌, ◌≤◌, ◌<◌, ◌==◌, ◌&&◌, length, slice_index_or, slice_set, true, false, not, All, IfOk};
+ghost use Rattle.graph_defs.specs.declared.net.TheConstants.{NODE_LIMIT};
 ghost use Rattle.graph_defs.specs.Matching.{covers, cover_size, greatest};
 ghost use Rattle.graph_defs.specs.Net.{Ends, IsValid, source, target};
 ghost use Rattle.graph_defs.specs.Verdict.{FindsBelow};
@@ -38,7 +39,7 @@ fn is_covered(labels: &[u32], from: u32, to: u32) -> bool
 // The nodes labelled 1, and of each later label's nodes one half, rounded down: of these each second
 // one counts.
 pub(crate) fn size_of(alloc: Global, labels: &[u32]) -> Result<u32, NoMemory>
-    requires { length labels.now ≤ 100000 }
+    requires { length labels.now ≤ NODE_LIMIT }
     ensures { IfOk result (λ size. size ≡ cover_size labels.now) }
 {
     let top = greatest_of(labels);
@@ -51,7 +52,7 @@ pub(crate) fn size_of(alloc: Global, labels: &[u32]) -> Result<u32, NoMemory>
 
 // For each label a bit is kept that tells whether there was an odd number so far.
 fn size_by_table(alloc: Global, top: u32, labels: &[u32]) -> Result<u32, NoMemory>
-    requires few { length labels.now ≤ 100000 }
+    requires few { length labels.now ≤ NODE_LIMIT }
     requires top { top ≡ greatest labels.now }
     ensures { IfOk result (λ size. size ≡ cover_size labels.now) }
 {
@@ -66,7 +67,7 @@ fn size_by_table(alloc: Global, top: u32, labels: &[u32]) -> Result<u32, NoMemor
 // Where labels are far greater than nodes are many they are sorted, so that no room is taken for
 // labels that aren't there.
 fn size_by_order(alloc: Global, labels: &[u32]) -> Result<u32, NoMemory>
-    requires { length labels.now ≤ 100000 }
+    requires { length labels.now ≤ NODE_LIMIT }
     ensures { IfOk result (λ size. size ≡ cover_size labels.now) }
 {
     let mut sorted = labels.to_vec(alloc)?;
@@ -76,7 +77,7 @@ fn size_by_order(alloc: Global, labels: &[u32]) -> Result<u32, NoMemory>
 
 // Each label stands in one run.
 fn size_of_runs(sorted: &[u32]) -> u32
-    requires few { length sorted.now ≤ 100000 }
+    requires few { length sorted.now ≤ NODE_LIMIT }
     requires sorted { IsNonDecreasing sorted.now }
     ensures { result ≡ cover_size sorted.now }
 {

@@ -1,5 +1,6 @@
 //! The check of a maximum matching.
 ghost use Rattle.std.specs.Prelude.{◌≡◌, ◌↔◌, ◌<◌, ◌≤◌, length, All, IsTrue, IfOk};
+ghost use Rattle.graph_defs.specs.declared.net.TheConstants.{NODE_LIMIT};
 ghost use Rattle.graph_defs.specs.declared.verdict.Verdict.TheVariants.{No};
 ghost use Rattle.graph_defs.specs.Matching.{IsMatchInRange, MatchHolds, cover_size, match_order};
 ghost use Rattle.graph_defs.specs.Net.{IsValid};
@@ -54,7 +55,7 @@ fn is_in_range(net: &Net, a: &MatchAnswer) -> bool
 
 // Whether there are as many edges as the cover's size.
 fn has_size(alloc: Global, a: &MatchAnswer) -> Result<bool, NoMemory>
-    requires { length a.now.cover ≤ 100000 }
+    requires { length a.now.cover ≤ NODE_LIMIT }
     ensures { IfOk result (λ holds. IsTrue holds ↔ (length a.now.edges ≡ cover_size a.now.cover)) }
 {
     let size = size_of(alloc, a.cover.as_slice())?;

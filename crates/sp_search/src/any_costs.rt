@@ -1,5 +1,6 @@
 //! Shortest paths from one node, whatever the costs.
 ghost use Rattle.std.specs.Prelude.{◌≡◌, ◌<◌, ◌≤◌, ◌≤ℤ◌, pos, length, IfOk, IfErr};
+ghost use Rattle.graph_defs.specs.declared.net.TheConstants.{NODE_LIMIT};
 ghost use Rattle.graph_defs.specs.Net.{IsValid};
 ghost use Rattle.graph_defs.specs.Shortest.{IsSpAnswer, AreBelow};
 ghost use Rattle.sp_search.specs.Lows.{StandBehind, CanReach, begin_of, IsLed};
@@ -100,7 +101,7 @@ fn whole_of(alloc: Global, cost: &[i64], tree: Finding, lows: Lows) -> Result<Sp
     requires known { KnowCosts (length cost.now) tree.queue.items }
     requires fits { paid cost.now tree.queue.items ≤ℤ pos 9223372036854775807 }
     requires long { length lows.found.marks.items ≡ length tree.marks.items }
-    requires few { length tree.marks.items ≤ 100000 }
+    requires few { length tree.marks.items ≤ NODE_LIMIT }
     ensures { IfOk result (λ answer. IsWhole cost.now tree.queue.items tree.marks.items
         lows.found.queue.items lows.found.marks.items lows.seeds answer) }
 {

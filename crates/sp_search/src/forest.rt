@@ -1,5 +1,6 @@
 //! Last arcs: the tree that they make, or a closed walk of them.
 ghost use Rattle.std.specs.Prelude.{◌≡◌, ◌<◌, ◌≤◌, [], ◌∷◌, false, true, length, replicate, slice_set, Some, IsSome, IfOk, MatchBool, MatchOption};
+ghost use Rattle.graph_defs.specs.declared.net.TheConstants.{NODE_LIMIT};
 ghost use Rattle.graph_defs.specs.declared.shortest.Why.TheVariants.{Seed};
 ghost use Rattle.graph_defs.specs.Net.{IsValid};
 ghost use Rattle.graph_defs.specs.Shortest.{AreBelow};
@@ -90,7 +91,7 @@ fn is_last(net: &Net, tags: &[Tag], arc: u32) -> bool
 /// A node that is tagged and isn't marked.
 pub fn stray(tags: &[Tag], marks: &[bool]) -> Option<u32>
     requires long { length marks.now ≡ length tags.now }
-    requires few { length tags.now ≤ 100000 }
+    requires few { length tags.now ≤ NODE_LIMIT }
     ensures { MatchOption result (AreMarked tags.now marks.now (length tags.now))
         (λ v. IsStray tags.now marks.now v) }
 {

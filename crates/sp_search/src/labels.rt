@@ -4,6 +4,7 @@ ghost use Rattle.std.specs.Cmp.{partial_order_from_own_ties};
 ghost use Rattle.std.specs.Cmp.Rules.{comparing};
 ghost use Rattle.std.specs.Ordering.{int_cmp, nat_cmp, on, flip_args, then_cmp, as_partial_cmp};
 ghost use Rattle.std.proofs.Common.{rules};
+ghost use Rattle.graph_defs.specs.declared.net.TheConstants.{NODE_LIMIT};
 ghost use Rattle.sp_search.specs.Labels.{label_at, first_labels, free_nodes, IsLowered, IsKept, AreSmall, TakesLeast};
 ghost use Rattle.sp_search.specs.declared.labels.Label.TheVariants.{Queued};
 
@@ -116,7 +117,7 @@ impl Labels {
 
     /// Takes the least label out.
     pub fn take_least(&mut self) -> Option<Least>
-        requires few { length self.old ≤ 100000 }
+        requires few { length self.old ≤ NODE_LIMIT }
         requires small { AreSmall self.old }
         ensures { TakesLeast self.old self.new result }
     {
@@ -131,7 +132,7 @@ impl Labels {
 
     /// The nodes that weren't taken out, in the order of the nodes.
     pub fn free_nodes(&self, alloc: Global) -> Result<Row<u32>, NoMemory>
-        requires { length self.now ≤ 100000 }
+        requires { length self.now ≤ NODE_LIMIT }
         ensures { IfOk result (λ nodes. nodes ≡ free_nodes self.now) }
     {
         let mut nodes = Row::new(alloc);

@@ -1,5 +1,6 @@
 //! Why there is no answer on shortest paths.
 ghost use Rattle.std.specs.Prelude.{◌≡◌, ◌≤◌, ◌<ℤ◌, ◌≤ℤ◌, pos, length, All, MatchBool, MatchOption};
+ghost use Rattle.graph_defs.specs.declared.net.TheConstants.{ARC_LIMIT};
 ghost use Rattle.sp_search.specs.Telling.{size};
 ghost use Rattle.sp_search.specs.Refusals.{sizes, IsFirstNegative};
 
@@ -39,7 +40,7 @@ fn size_of(cost: i64) -> i128
 
 /// The first arc whose cost is below 0.
 pub fn first_negative(cost: &[i64]) -> Option<u32>
-    requires { length cost.now ≤ 400000 }
+    requires { length cost.now ≤ ARC_LIMIT }
     ensures { MatchOption result (All (λ c. pos 0 ≤ℤ c) cost.now)
         (λ arc. IsFirstNegative cost.now arc) }
 {

@@ -14,7 +14,7 @@ use super::Graph;
 use super::growth::{Ends, back_head, back_name, make_room};
 use crate::cell::EdgeCell;
 use crate::seen::GraphView;
-use graph_lists::{ListHead, Lists, Place};
+use graph_lists::{Hook, ListHead, Lists};
 use graph_state::{
     Dart, EdgeItem, EditRefusal, Element, ItemName, ListName, LookRefusal, NodeItem, Side,
 };
@@ -37,8 +37,8 @@ fn show_beside(seen: &mut Seen<GraphView>, spot: Spot, w: u32, label: &Row<u8>)
 }
 
 /// The front dart of a new edge goes next to that of another one.
-fn put_front(lists: &mut Lists, edges: &Pool<EdgeCell>, spot: Spot, front: Element, place: &Place)
-    requires { CanPutFront lists.old edges.now spot.edge front place.now }
+fn put_front(lists: &mut Lists, edges: &Pool<EdgeCell>, spot: Spot, front: Element, hook: &Hook)
+    requires { CanPutFront lists.old edges.now spot.edge front hook.now }
     ensures { PutsFront lists.old lists.new spot.side spot.edge front }
 {
     let beside = Item {
@@ -52,7 +52,7 @@ fn put_front(lists: &mut Lists, edges: &Pool<EdgeCell>, spot: Spot, front: Eleme
         edge: spot.edge,
         back: false,
     });
-    lists.put_beside(spot.side, dart, &cell.front, front, place);
+    lists.put_beside(spot.side, dart, &cell.front, front, hook);
 }
 
 /// Takes an edge in under the next number, with its front dart next to that of another edge, and
@@ -82,10 +82,10 @@ fn enter_beside(
         edge: e,
         back: true,
     });
-    let place = lists.add_element(Element::Edge(e));
+    let hook = lists.add_element(Element::Edge(e));
     let first = lists.add_element(front);
     let second = lists.add_element(back);
-    lists.push_back(ListName::Edges, head, Element::Edge(e), &place, true);
+    lists.push_back(ListName::Edges, head, Element::Edge(e), &hook, true);
     put_front(lists, edges, spot, front, &first);
     lists.push_back(ends.row, ins, back, &second, true);
     edges.insert_reserved(EdgeCell {
@@ -94,7 +94,7 @@ fn enter_beside(
         to: ends.to,
         reversal: None,
         is_hidden: false,
-        place,
+        hook,
         front: first,
         back: second,
     })

@@ -6,14 +6,9 @@ ghost use Rattle.graph_core.specs.Kept.{IsNodeCell, IsEdgeCell};
 
 use super::Graph;
 use crate::cell::{EdgeCell, NodeCell};
+use graph_defs::{ARC_LIMIT, NODE_LIMIT};
 use graph_state::{EdgeItem, EditRefusal, Element, ItemName, LookRefusal, NodeItem};
 use item_pool::MOST_SERIALS;
-
-/// How many nodes a graph may have.
-const NODE_LIMIT: u32 = 100_000;
-
-/// How many edges a graph may have.
-const EDGE_LIMIT: u32 = 400_000;
 
 impl Graph {
     /// The cell of a node, hidden or not.
@@ -59,7 +54,7 @@ impl Graph {
     {
         match self.edges.get(e.0) {
             Ok(cell) => {
-                if self.lists.is_shown(Element::Edge(e.0.serial), &cell.place) {
+                if self.lists.is_shown(Element::Edge(e.0.serial), &cell.hook) {
                     Ok(cell)
                 } else {
                     Err(LookRefusal::Hidden(ItemName::Edge(e.0.serial)))
@@ -103,7 +98,7 @@ impl Graph {
     pub(super) fn check_edges(&self) -> Result<(), EditRefusal>
         ensures { MatchResult result (λ _. EdgeRoom self.now) (FullEdge self.now) }
     {
-        if self.edges.len() >= EDGE_LIMIT {
+        if self.edges.len() >= ARC_LIMIT {
             return Err(EditRefusal::FullEdges);
         }
         if self.edges.made() == MOST_SERIALS {

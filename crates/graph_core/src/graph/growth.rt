@@ -1,5 +1,6 @@
 //! New nodes and edges.
 ghost use Rattle.std.specs.Prelude.{◌≡◌, ℕ, ◌+◌, ◌*◌, ◌<◌, ◌≤◌, [], ◌∷◌, Some, None, cond, IfOk, IfErr, OnOk, OnErr};
+ghost use Rattle.item_ring.specs.declared.rings.TheConstants.{MOST_NODES};
 ghost use Rattle.item_pool.specs.Contents.{IsAsBefore};
 ghost use Rattle.leda_base.specs.declared.name.ItemName.TheVariants as names;
 ghost use Rattle.graph_state.specs.declared.name.ListName.TheVariants.{Nodes, Edges, Out, In};
@@ -25,8 +26,8 @@ pub(super) fn make_room<T>(
     more: u32,
     elements: u32,
 ) -> Result<(), NoMemory>
-    requires lists { lists.old.heads + 2 * more ≤ 16777215 }
-    requires elements { lists.old.members + 2 * elements ≤ 16777215 }
+    requires lists { lists.old.heads + 2 * more ≤ MOST_NODES }
+    requires elements { lists.old.members + 2 * elements ≤ MOST_NODES }
     ensures heads { OnOk result (2 * more ≤ lists.new.spare_heads) }
     ensures members { OnOk result (2 * elements ≤ lists.new.spare_members) }
     ensures pool { OnOk result (0 < pool.new.spare) }
@@ -43,7 +44,7 @@ pub(super) fn make_room<T>(
 /// Makes the heads of the node list and of the edge list, where there are none.
 fn open(lists: &mut Lists, heads: &mut Option<Heads>)
     requires spare { heads.old ≡ None → 4 ≤ lists.old.spare_heads }
-    requires few { lists.old.heads + 4 ≤ 16777215 }
+    requires few { lists.old.heads + 4 ≤ MOST_NODES }
     requires fresh { heads.old ≡ None → IsClosed lists.old }
     ensures { Opens lists.old lists.new heads.old heads.new }
 {
@@ -67,12 +68,12 @@ fn enter_node(
     let v = nodes.made() + 1;
     let outs = lists.add_list(ListName::Out(v));
     let ins = lists.add_list(ListName::In(v));
-    let place = lists.add_element(Element::Node(v));
-    lists.push_back(ListName::Nodes, head, Element::Node(v), &place, true);
+    let hook = lists.add_element(Element::Node(v));
+    lists.push_back(ListName::Nodes, head, Element::Node(v), &hook, true);
     nodes.insert_reserved(NodeCell {
         label,
         is_hidden: false,
-        place,
+        hook,
         outs,
         ins,
     })
@@ -130,10 +131,10 @@ fn enter_edge(
         edge: e,
         back: true,
     });
-    let place = lists.add_element(Element::Edge(e));
+    let hook = lists.add_element(Element::Edge(e));
     let first = lists.add_element(front);
     let second = lists.add_element(back);
-    lists.push_back(ListName::Edges, head, Element::Edge(e), &place, true);
+    lists.push_back(ListName::Edges, head, Element::Edge(e), &hook, true);
     lists.push_back(ListName::Out(ends.from), outs, front, &first, true);
     lists.push_back(ends.row, ins, back, &second, true);
     edges.insert_reserved(EdgeCell {
@@ -142,7 +143,7 @@ fn enter_edge(
         to: ends.to,
         reversal: None,
         is_hidden: false,
-        place,
+        hook,
         front: first,
         back: second,
     })

@@ -51,11 +51,11 @@ fn gather_one(
         → GoesIf (is_back x) lists.old.named lists.new.named to x }
     ensures room { SameRoom lists.old lists.new }
 {
-    let (x, place) = element_at(lists, nodes, edges, from, m);
+    let (x, hook) = element_at(lists, nodes, edges, from, m);
     if is_back(x) {
-        let shows = lists.is_shown(x, place);
-        lists.unlink(x, place);
-        lists.push_back(to, rear, x, place, shows);
+        let shows = lists.is_shown(x, hook);
+        lists.unlink(x, hook);
+        lists.push_back(to, rear, x, hook, shows);
     }
 }
 

@@ -12,7 +12,7 @@ ghost use Rattle.graph_state.specs.Names.{Has};
 ghost use Rattle.graph_state.specs.Edits.{edge_hidden, edge_restored};
 ghost use Rattle.graph_state.specs.Refusals.{IsThere};
 ghost use Rattle.graph_core.specs.Looks.{is_marked};
-ghost use Rattle.graph_lists.specs.Named.{head_at, place_at, list_at, shows_at, SameRoom, IsFirstShown, IsNextShown};
+ghost use Rattle.graph_lists.specs.Named.{head_at, hook_at, list_at, shows_at, SameRoom, IsFirstShown, IsNextShown};
 ghost use Rattle.graph_lists.specs.Heads.{IsMemberOf};
 ghost use Rattle.graph_core.specs.declared.cell.NodeCell.{NodeCell};
 ghost use Rattle.graph_core.specs.declared.cell.EdgeCell.{EdgeCell};
@@ -25,19 +25,19 @@ use super::Graph;
 use super::growth::{back_head, back_name};
 use crate::cell::{EdgeCell, Heads, NodeCell};
 use crate::seen::show;
-use graph_lists::{ListHead, Lists, Member, Place};
+use graph_lists::{Hook, ListHead, Lists, Member};
 use graph_state::{Dart, EdgeItem, Element, ItemName, ListName};
 use item_pool::{Item, Pool};
 
 /// The element shows no more.
-fn hide_element(lists: &mut Lists, x: Element, place: &Place)
-    requires place { place_at lists.old.named x ≡ Some place.now }
+fn hide_element(lists: &mut Lists, x: Element, hook: &Hook)
+    requires hook { hook_at lists.old.named x ≡ Some hook.now }
     requires there { (l : ListName) × Has x (list_at lists.old.named l) }
     ensures named { Marks lists.old.named lists.new.named x false }
     ensures room { SameRoom lists.old lists.new }
 {
-    if lists.is_shown(x, place) {
-        lists.hide(x, place);
+    if lists.is_shown(x, hook) {
+        lists.hide(x, hook);
     }
 }
 
@@ -54,7 +54,7 @@ fn hide_parts(lists: &mut Lists, e: u32, cell: &EdgeCell)
     ensures named { MarksParts lists.old.named lists.new.named e false }
     ensures room { SameRoom lists.old lists.new }
 {
-    hide_element(lists, Element::Edge(e), &cell.place);
+    hide_element(lists, Element::Edge(e), &cell.hook);
     hide_element(lists, dart(e, false), &cell.front);
     hide_element(lists, dart(e, true), &cell.back);
 }
@@ -71,32 +71,32 @@ fn set_mark(edges: &mut Pool<EdgeCell>, e: EdgeItem, hidden: bool)
     }
 }
 
-/// The element of the list that the member is of, and its place.
+/// The element of the list that the member is of, and its hook.
 pub(super) fn element_at<'a>(
     lists: &Lists,
     nodes: &'a Pool<NodeCell>,
     edges: &'a Pool<EdgeCell>,
     list: ListName,
     m: Member,
-) -> (Element, &'a Place)
+) -> (Element, &'a Hook)
     requires { HasToken lists.now.named nodes.now edges.now list m }
     ensures { (x : Element) → Has x (list_at lists.now.named list)
         → IsMemberOf lists.now.named false x m
         → IsTokenIn lists.now.named nodes.now edges.now list x
-        → (result.0 ≡ x) × (place_at lists.now.named x ≡ Some result.1.now) }
+        → (result.0 ≡ x) × (hook_at lists.now.named x ≡ Some result.1.now) }
 {
     let serial = lists.number(m);
     if let ListName::Nodes = list {
         let Ok(cell) = nodes.get(Item { slot: 0, serial }) else {
             unreachable!()
         };
-        return (Element::Node(serial), &cell.place);
+        return (Element::Node(serial), &cell.hook);
     }
     let Ok(cell) = edges.get(Item { slot: 0, serial }) else {
         unreachable!()
     };
     if let ListName::Edges = list {
-        return (Element::Edge(serial), &cell.place);
+        return (Element::Edge(serial), &cell.hook);
     }
     if cell.front.full == m {
         return (dart(serial, false), &cell.front);
@@ -104,7 +104,7 @@ pub(super) fn element_at<'a>(
     (dart(serial, true), &cell.back)
 }
 
-/// The nearest element before x in its list that shows, with its place, and none where no such
+/// The nearest element before x in its list that shows, with its hook, and none where no such
 /// element shows.
 fn nearest<'a>(
     lists: &Lists,
@@ -113,17 +113,17 @@ fn nearest<'a>(
     list: ListName,
     head: &ListHead,
     x: Element,
-    place: &Place,
-) -> Option<(Element, &'a Place)>
+    hook: &Hook,
+) -> Option<(Element, &'a Hook)>
     requires head { head_at lists.now.named list ≡ Some head.now }
-    requires place { place_at lists.now.named x ≡ Some place.now }
+    requires hook { hook_at lists.now.named x ≡ Some hook.now }
     requires there { Has x (list_at lists.now.named list) }
     requires tokens { HasTokens lists.now.named nodes.now edges.now list }
     ensures { MatchOption result (IsFirstShown lists.now.named list x)
         (λ y. IsNextShown lists.now.named list y.0 x
-        × (place_at lists.now.named y.0 ≡ Some y.1.now)) }
+        × (hook_at lists.now.named y.0 ≡ Some y.1.now)) }
 {
-    let mut at = lists.prev(place.full);
+    let mut at = lists.prev(hook.full);
     for _turn in 0..lists.len(head.full) {
         let m = at?;
         let (y, beside) = element_at(lists, nodes, edges, list, m);
@@ -143,21 +143,21 @@ fn show_element(
     list: ListName,
     head: &ListHead,
     x: Element,
-    place: &Place,
+    hook: &Hook,
 )
     requires head { head_at lists.old.named list ≡ Some head.now }
-    requires place { place_at lists.old.named x ≡ Some place.now }
+    requires hook { hook_at lists.old.named x ≡ Some hook.now }
     requires there { Has x (list_at lists.old.named list) }
     requires tokens { HasTokens lists.old.named nodes.now edges.now list }
     ensures named { Marks lists.old.named lists.new.named x true }
     ensures room { SameRoom lists.old lists.new }
 {
-    if lists.is_shown(x, place) {
+    if lists.is_shown(x, hook) {
         return;
     }
-    match nearest(lists, nodes, edges, list, head, x, place) {
-        Some((y, beside)) => lists.show_behind(list, y, beside, x, place),
-        None => lists.show_first(list, head, x, place),
+    match nearest(lists, nodes, edges, list, head, x, hook) {
+        Some((y, beside)) => lists.show_behind(list, y, beside, x, hook),
+        None => lists.show_first(list, head, x, hook),
     }
 }
 
@@ -201,7 +201,7 @@ fn show_parts(
         ListName::Edges,
         &heads.edges,
         edge,
-        &cell.place,
+        &cell.hook,
     );
     show_element(lists, nodes, edges, outs, &from.outs, front, &cell.front);
     show_element(lists, nodes, edges, ins, head, back, &cell.back);

@@ -105,7 +105,7 @@ impl Graph {
             (IsGone self.now (names.Edge e.0.serial)) }
     {
         match self.edges.get(e.0) {
-            Ok(cell) => Ok(may_edge_at(&self.lists, &self.edges, self.lists.next(cell.place.full))),
+            Ok(cell) => Ok(may_edge_at(&self.lists, &self.edges, self.lists.next(cell.hook.full))),
             Err(why) => Err(why),
         }
     }

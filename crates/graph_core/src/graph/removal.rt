@@ -7,7 +7,7 @@ ghost use Rattle.graph_state.specs.Formed.{IsFormed};
 ghost use Rattle.graph_state.specs.Parts.{is_part, IsAlone};
 ghost use Rattle.graph_state.specs.Edits.{without_edge, without_node, has_end, cleared};
 ghost use Rattle.graph_state.specs.Refusals.{IsThere, AreVisible, RefusesLook};
-ghost use Rattle.graph_lists.specs.Named.{place_at, list_at};
+ghost use Rattle.graph_lists.specs.Named.{hook_at, list_at};
 ghost use Rattle.graph_core.specs.Marks.{HasParts};
 ghost use Rattle.graph_core.specs.Removal.{is_it, Drops, HasNodeParts, DropsNode};
 
@@ -15,18 +15,18 @@ use super::Graph;
 use super::pairs::unpair;
 use crate::cell::{EdgeCell, NodeCell};
 use crate::seen::show;
-use graph_lists::{Lists, Place};
+use graph_lists::{Hook, Lists};
 use graph_state::{Dart, EdgeItem, Element, ListName, LookRefusal, NodeItem};
 use item_pool::Item;
 
 /// The element leaves its list, and is gone.
-fn drop_part(lists: &mut Lists, x: Element, place: &Place)
-    requires place { place_at lists.old.named x ≡ Some place.now }
+fn drop_part(lists: &mut Lists, x: Element, hook: &Hook)
+    requires hook { hook_at lists.old.named x ≡ Some hook.now }
     requires there { (l : ListName) × Has x (list_at lists.old.named l) }
     ensures { Drops lists.old lists.new (is_it x) 2 }
 {
-    lists.unlink(x, place);
-    lists.drop_element(x, place);
+    lists.unlink(x, hook);
+    lists.drop_element(x, hook);
 }
 
 /// The edge and its darts leave their lists, and are gone.
@@ -42,7 +42,7 @@ fn drop_parts(lists: &mut Lists, e: u32, cell: &EdgeCell)
         edge: e,
         back: true,
     };
-    drop_part(lists, Element::Edge(e), &cell.place);
+    drop_part(lists, Element::Edge(e), &cell.hook);
     drop_part(lists, Element::End(front), &cell.front);
     drop_part(lists, Element::End(back), &cell.back);
 }
@@ -52,7 +52,7 @@ fn drop_node_parts(lists: &mut Lists, v: u32, cell: &NodeCell)
     requires { HasNodeParts lists.old.named v cell.now }
     ensures { DropsNode lists.old lists.new v }
 {
-    drop_part(lists, Element::Node(v), &cell.place);
+    drop_part(lists, Element::Node(v), &cell.hook);
     lists.drop_list(ListName::Out(v), &cell.outs);
     lists.drop_list(ListName::In(v), &cell.ins);
 }

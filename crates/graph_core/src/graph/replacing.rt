@@ -1,5 +1,6 @@
 //! A graph in place of another one.
 ghost use Rattle.std.specs.Prelude.{◌≡◌, ◌+◌, ◌≤◌, ◌<◌, ◌↔◌, [], ◌∷◌, IsTrue, IfOk, IfErr, IfSome, OnOk, OnErr};
+ghost use Rattle.graph_defs.specs.declared.net.TheConstants.{NODE_LIMIT};
 ghost use Rattle.leda_base.specs.declared.name.ItemName.TheVariants as names;
 ghost use Rattle.graph_defs.specs.Plain.{IsPlainGraph};
 ghost use Rattle.graph_state.specs.State.{new_graph};
@@ -86,7 +87,7 @@ impl Graph {
     /// the number `edges + k + 1`. It is paired with its reversal where that came before it.
     fn add_edge(&mut self, nodes: u32, edges: u32, edge: PlainEdge) -> Result<(), NoMemory>
         requires numbers { (nodes ≤ MOST_SERIALS) × (edges ≤ MOST_SERIALS) }
-        requires few { (edge.from < 100000) × (edge.to < 100000) }
+        requires few { (edge.from < NODE_LIMIT) × (edge.to < NODE_LIMIT) }
         requires from { AreVisible self.old (names.Node (nodes + edge.from + 1) ∷ []) }
         requires to { AreVisible self.old (names.Node (nodes + edge.to + 1) ∷ []) }
         requires label { IsLabel edge.label }

@@ -36,8 +36,8 @@ fn show_list(
     let mut at = lists.first(head.full);
     for _turn in 0..lists.len(head.full) {
         let Some(m) = at else { unreachable!() };
-        let (x, place) = element_at(lists, nodes, edges, list, m);
-        show_element(lists, nodes, edges, list, head, x, place);
+        let (x, hook) = element_at(lists, nodes, edges, list, m);
+        show_element(lists, nodes, edges, list, head, x, hook);
         at = lists.next(m);
     }
 }

@@ -7,7 +7,7 @@ ghost use Rattle.leda_base.specs.declared.name.ItemName.TheVariants as names;
 ghost use Rattle.graph_state.specs.Names.{Has};
 ghost use Rattle.graph_state.specs.Edits.{node_hidden, node_restored};
 ghost use Rattle.graph_state.specs.Refusals.{IsThere};
-ghost use Rattle.graph_lists.specs.Named.{head_at, place_at, list_at, SameRoom};
+ghost use Rattle.graph_lists.specs.Named.{head_at, hook_at, list_at, SameRoom};
 ghost use Rattle.graph_core.specs.declared.cell.NodeCell.{NodeCell};
 ghost use Rattle.graph_core.specs.Marks.{Marks, MarksIf, HasTokens};
 ghost use Rattle.graph_core.specs.NodeMarks.{turns, CanTurn, CanTurnAll, TurnsAll, CanTurnNode, TurnsNode};
@@ -16,7 +16,7 @@ use super::super::Graph;
 use super::{hide_element, hide_parts, show_element, show_parts};
 use crate::cell::{EdgeCell, Heads, NodeCell};
 use crate::seen::show;
-use graph_lists::{ListHead, Lists, Place};
+use graph_lists::{Hook, ListHead, Lists};
 use graph_state::{Element, ListName, NodeItem};
 use item_pool::{Item, Pool};
 
@@ -40,20 +40,20 @@ fn turn_element(
     list: ListName,
     head: &ListHead,
     x: Element,
-    place: &Place,
+    hook: &Hook,
     shows: bool,
 )
     requires head { head_at lists.old.named list ≡ Some head.now }
-    requires place { place_at lists.old.named x ≡ Some place.now }
+    requires hook { hook_at lists.old.named x ≡ Some hook.now }
     requires there { Has x (list_at lists.old.named list) }
     requires tokens { HasTokens lists.old.named nodes.now edges.now list }
     ensures named { Marks lists.old.named lists.new.named x shows }
     ensures room { SameRoom lists.old lists.new }
 {
     if shows {
-        show_element(lists, nodes, edges, list, head, x, place);
+        show_element(lists, nodes, edges, list, head, x, hook);
     } else {
-        hide_element(lists, x, place);
+        hide_element(lists, x, hook);
     }
 }
 
@@ -135,7 +135,7 @@ fn turn_node(
         ListName::Nodes,
         &heads.nodes,
         node,
-        &cell.place,
+        &cell.hook,
         shows,
     );
     turn_edges(

@@ -1,4 +1,4 @@
--- The cell of the node goes, and its place and lists.
+-- The cell of the node goes, and its hook and lists.
 use Rattle.std.proofs.Common.{sym, ap, subst, ◌∙◌}
 use Rattle.graph_state.specs.State.{GraphState}
 use Rattle.graph_state.specs.Parts.{IsAlone}

@@ -51,7 +51,7 @@ next-at-requires c =
     let is = c.number-v.ensures.number false h.x h.member in
     let fresh = not_passed m false xs i.0 c.loop-turn._turn c.loop-turn.at i.1.0 c.requires.fills.once c.in-Some.m h in
     let g = all_more n c.args.directed m i.0 i.1.1 c.number-v.result (λ j. fresh (subst (λ k. Has k i.0) is j)) o c.gather_at.ensures.named in
-    (false, (Nodes, (h.x, (subst (Has h.x) (sym g.nodes) (walk_has (λ (k : ℕ). k) number m false xs i.0 c.loop-turn._turn c.loop-turn.at i.1.0 c.in-Some.m h), member_same m o c.gather_at.ensures.named.keeps.places h.x c.in-Some.m h.member))))
+    (false, (Nodes, (h.x, (subst (Has h.x) (sym g.nodes) (walk_has (λ (k : ℕ). k) number m false xs i.0 c.loop-turn._turn c.loop-turn.at i.1.0 c.in-Some.m h), member_same m o c.gather_at.ensures.named.keeps.hooks h.x c.in-Some.m h.member))))
 
 pub loop-turn-preserved : goal.loop-turn-preserved
 loop-turn-preserved c =
@@ -60,9 +60,9 @@ loop-turn-preserved c =
     let m = c.loop-turn.lists.named in
     let o = c.gather_at.new.lists.named in
     let xs = list_at n Nodes in
-    let w = walk_moved m o c.gather_at.ensures.named.keeps.places xs i.0 c.loop-turn._turn c.loop-turn.at i.1.0 in
+    let w = walk_moved m o c.gather_at.ensures.named.keeps.hooks xs i.0 c.loop-turn._turn c.loop-turn.at i.1.0 in
     let h = walk_here (λ (k : ℕ). k) number o false xs i.0 c.loop-turn._turn c.loop-turn.at w c.in-Some.m c.in-Some.is in
-    let is = c.number-v.ensures.number false h.x (member_same o m (sym c.gather_at.ensures.named.keeps.places) h.x c.in-Some.m h.member) in
+    let is = c.number-v.ensures.number false h.x (member_same o m (sym c.gather_at.ensures.named.keeps.hooks) h.x c.in-Some.m h.member) in
     let fresh = not_passed o false xs i.0 c.loop-turn._turn c.loop-turn.at w c.requires.fills.once c.in-Some.m h in
     let g = all_more n c.args.directed m i.0 i.1.1 c.number-v.result (λ j. fresh (subst (λ k. Has k i.0) is j)) o c.gather_at.ensures.named in (
       i.0 ++ c.number-v.result ∷ [],

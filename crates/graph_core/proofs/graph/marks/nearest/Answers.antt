@@ -1,13 +1,13 @@
 -- The walk goes to the front, past what doesn't show.
 use Rattle.std.proofs.Common.{◌≡◌, ◌≤◌, ◌++◌, ◌∷◌, Some, false, MatchOption, refl, sym, ap, subst, ◌∙◌}
 use Rattle.graph_state.specs.Names.{Has}
-use Rattle.graph_lists.specs.Named.{place_at, list_at, shows_at, IsFirstShown, IsNextShown}
+use Rattle.graph_lists.specs.Named.{hook_at, list_at, shows_at, IsFirstShown, IsNextShown}
 use Rattle.graph_core.proofs.Nearest.{passes_none, last_is, passed_at, passed_has, passes_more, next_shown, first_shown, passes_all}
 use Rattle.graph_core.proofs.graph.marks.nearest.Goals as goal
 
 pub loop-turn-init : goal.loop-turn-init
 loop-turn-init c = passes_none c.args.lists.now.named c.args.list c.args.x c.requires.there c.prev-at.result
-    (λ before behind is. c.prev-at.ensures false c.args.list c.args.x before behind (c.args.place.now, (c.requires.place, refl)) is)
+    (λ before behind is. c.prev-at.ensures false c.args.list c.args.x before behind (c.args.hook.now, (c.requires.hook, refl)) is)
 
 pub element_at-y-requires : goal.element_at-y-requires
 element_at-y-requires c =
@@ -15,11 +15,11 @@ element_at-y-requires c =
     let has = passed_has c.args.lists.now.named c.args.list c.args.x c.loop-turn._turn c.loop-turn.at c.loop-turn.invariant c.in_ok-m.m h in
     (h.y, (has, (h.member, c.requires.tokens h.y has)))
 
-pub is_shown-requires-clause-place : goal.is_shown-requires-clause-place
-is_shown-requires-clause-place c =
+pub is_shown-requires-clause-hook : goal.is_shown-requires-clause-hook
+is_shown-requires-clause-hook c =
     let h = last_is c.args.lists.now.named c.args.list c.args.x c.loop-turn._turn c.loop-turn.at c.loop-turn.invariant c.in_ok-m.m c.in_ok-m.was in
     let e = c.element_at-y.ensures h.y (passed_has c.args.lists.now.named c.args.list c.args.x c.loop-turn._turn c.loop-turn.at c.loop-turn.invariant c.in_ok-m.m h) h.member (c.requires.tokens h.y (passed_has c.args.lists.now.named c.args.list c.args.x c.loop-turn._turn c.loop-turn.at c.loop-turn.invariant c.in_ok-m.m h)) in
-    ap (place_at c.args.lists.now.named) e.0 ∙ e.1
+    ap (hook_at c.args.lists.now.named) e.0 ∙ e.1
 
 pub is_shown-requires-clause-there : goal.is_shown-requires-clause-there
 is_shown-requires-clause-there c =
@@ -31,7 +31,7 @@ pub returns-then-is_shown : goal.returns-then-is_shown
 returns-then-is_shown c =
     let h = last_is c.args.lists.now.named c.args.list c.args.x c.loop-turn._turn c.loop-turn.at c.loop-turn.invariant c.in_ok-m.m c.in_ok-m.was in
     let e = c.element_at-y.ensures h.y (passed_has c.args.lists.now.named c.args.list c.args.x c.loop-turn._turn c.loop-turn.at c.loop-turn.invariant c.in_ok-m.m h) h.member (c.requires.tokens h.y (passed_has c.args.lists.now.named c.args.list c.args.x c.loop-turn._turn c.loop-turn.at c.loop-turn.invariant c.in_ok-m.m h)) in
-    (next_shown c.args.lists.now.named c.args.list c.args.x c.loop-turn._turn c.loop-turn.at c.loop-turn.invariant c.in_ok-m.m h c.element_at-y.result.0 e.0 (sym c.is_shown.ensures ∙ c.if-is_shown.true), ap (place_at c.args.lists.now.named) e.0 ∙ e.1)
+    (next_shown c.args.lists.now.named c.args.list c.args.x c.loop-turn._turn c.loop-turn.at c.loop-turn.invariant c.in_ok-m.m h c.element_at-y.result.0 e.0 (sym c.is_shown.ensures ∙ c.if-is_shown.true), ap (hook_at c.args.lists.now.named) e.0 ∙ e.1)
 
 pub prev-at-requires-in-loop-turn : goal.prev-at-requires-in-loop-turn
 prev-at-requires-in-loop-turn c =
@@ -47,7 +47,7 @@ loop-turn-preserved c =
 
 pub returns-in_err-m : goal.returns-in_err-m
 returns-in_err-m c =
-    subst (λ r. MatchOption r (IsFirstShown c.args.lists.now.named c.args.list c.args.x) (λ y. IsNextShown c.args.lists.now.named c.args.list y.0 c.args.x × (place_at c.args.lists.now.named y.0 ≡ Some y.1.now))) (sym c.from_residual.ensures)
+    subst (λ r. MatchOption r (IsFirstShown c.args.lists.now.named c.args.list c.args.x) (λ y. IsNextShown c.args.lists.now.named c.args.list y.0 c.args.x × (hook_at c.args.lists.now.named y.0 ≡ Some y.1.now))) (sym c.from_residual.ensures)
     (first_shown c.args.lists.now.named c.args.list c.args.x c.loop-turn._turn c.loop-turn.at c.loop-turn.invariant c.in_err-m.was)
 
 pub unreachable-requires : goal.unreachable-requires

@@ -6,7 +6,7 @@ use Rattle.graph_state.specs.declared.name.ListName.{ListName}
 use Rattle.graph_state.specs.Names.{first_of}
 use Rattle.graph_lists.specs.Named.{Lists, seen_list}
 use Rattle.graph_lists.specs.Heads.{IsHeadOf, Finds}
-use Rattle.graph_lists.proofs.Looks.{finds_first, head_there, ring_at, placed_at}
+use Rattle.graph_lists.proofs.Looks.{finds_first, head_there, ring_at, hooked_at}
 use Rattle.graph_lists.proofs.lists.Lists.first.Goals as goal
 
 pub first-requires : goal.first-requires
@@ -20,4 +20,4 @@ returns c b l is =
     let is' = (subst (λ (o : Lists). IsHeadOf o.named b l c.args.head) (sym c.self.view_is) is) in
     subst (λ (o : Lists). Finds o.named b c.first.result (first_of (seen_list o.named b l))) c.self.view_is
     (subst (λ r. Finds a.seen.view b r (first_of (seen_list a.seen.view b l))) (sym (c.first.ensures.first ∙ ap ring.front (ring_at a.seen.view a.rings c.self.invariant b l c.args.head is')))
-    (finds_first a.seen.view b (seen_list a.seen.view b l) (placed_at a.seen.view a.rings c.self.invariant b l (seen_list a.seen.view b l) (λ x i. i))))
+    (finds_first a.seen.view b (seen_list a.seen.view b l) (hooked_at a.seen.view a.rings c.self.invariant b l (seen_list a.seen.view b l) (λ x i. i))))

@@ -1,4 +1,4 @@
--- To show one list changes neither places nor lists.
+-- To show one list changes neither hooks nor lists.
 use Rattle.std.proofs.Common.{subst, ◌∙◌}
 use Rattle.graph_state.specs.declared.name.ListName.TheVariants.{Nodes, Edges}
 use Rattle.graph_state.specs.Names.{Has, number}

@@ -1,7 +1,7 @@
 -- The walk goes along the ring of all that stands in the list, and each element shows after its turn.
 use Rattle.std.proofs.Common.{◌<◌, ◌≤◌, false, true, refl, sym, ap, subst, ◌∙◌}
 use Rattle.graph_state.specs.Names.{Has, first_of}
-use Rattle.graph_lists.specs.Named.{list_at, place_at}
+use Rattle.graph_lists.specs.Named.{list_at, hook_at}
 use Rattle.graph_core.specs.Marks.{Marks}
 use Rattle.graph_core.specs.Restores.{ShowsAll}
 use Rattle.graph_core.proofs.Hiding.{same_on}
@@ -35,15 +35,15 @@ element_at-x-requires c =
 pub show_element-requires-clause-head : goal.show_element-requires-clause-head
 show_element-requires-clause-head c = same_head_at c.args.lists.now.named c.loop-turn.lists.named c.loop-turn.invariant.0.holds.same c.args.list ∙ c.requires.head
 
-pub show_element-requires-clause-place : goal.show_element-requires-clause-place
-show_element-requires-clause-place c =
+pub show_element-requires-clause-hook : goal.show_element-requires-clause-hook
+show_element-requires-clause-hook c =
     let n = c.args.lists.now.named in
     let m = c.loop-turn.lists.named in
     let w = c.loop-turn.invariant.0 in
     let h = passed_here (ShowsAll n m) n c.args.list c.loop-turn._turn c.loop-turn.at w c.in-Some.m c.in-Some.is in
     let has = subst (Has h.x) (sym (same_list_at n m w.holds.same c.args.list)) (passed_has (ShowsAll n m) n c.args.list c.loop-turn._turn c.loop-turn.at w c.in-Some.m h) in
     let e = c.element_at-x.ensures h.x has (member_stays n m w.holds.same h.x c.in-Some.m h.member) (tokens_stay n m w.holds.same c.args.nodes.now c.args.edges.now c.args.list c.requires.tokens h.x has) in
-    ap (place_at m) e.0 ∙ e.1
+    ap (hook_at m) e.0 ∙ e.1
 
 pub show_element-requires-clause-there : goal.show_element-requires-clause-there
 show_element-requires-clause-there c =

@@ -1,4 +1,4 @@
--- To turn one part changes neither places nor lists.
+-- To turn one part changes neither hooks nor lists.
 use Rattle.graph_state.specs.declared.name.ListName.TheVariants.{Nodes, Out, In}
 use Rattle.graph_core.proofs.Hiding.{same_on}
 use Rattle.graph_core.proofs.Showing.{can_turn_still}
