@@ -3,7 +3,6 @@ ghost use Rattle.std.specs.Prelude.{◌≡◌, ◌+◌, ◌*◌, ◌<◌, ◌≤
 ghost use Rattle.std.specs.Borrow.{sem};
 ghost use Rattle.item_pool.specs.Chained.{blank, chained};
 ghost use Rattle.item_pool.specs.Joined.{LiesAt};
-ghost use Rattle.item_pool.specs.declared.cells.TheConstants.{FIRST_BLOCK};
 
 use crate::block::{Block, Cell};
 use std::alloc::{AllocError, Global};
@@ -29,6 +28,7 @@ impl<T> Model for Cells<T> {
     ghost Value = { List (Cell T) };
 
     ghost use Rattle.item_pool.specs.Joined.{joined, AreBlocks};
+    ghost use Rattle.item_pool.specs.declared.cells.TheConstants.{FIRST_BLOCK};
 
     ghost view = { λ c. joined c.blocks.items };
 
