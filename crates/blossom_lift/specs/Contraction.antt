@@ -32,7 +32,8 @@ is_inner within net arc = within (source net arc) && within (target net arc)
 
 -- every arc keeps its number, so that those inside are loops at the hub; the matching keeps its
 -- edges but those inside
-pub record IsContracted (net : Net) (edges : List ℕ) (within : ℕ → Bool) (small : Net) (left : List ℕ) : Type 0 where
+pub record IsContracted
+    (net : Net) (edges : List ℕ) (within : ℕ → Bool) (small : Net) (left : List ℕ) : Type 0 where
   pub nodes : small.n ≡ rank within net.n + 1
   pub arcs : small.arcs ≡ map (image_ends within net.n) net.arcs
   pub matching : left ≡ filter (λ arc. not (is_inner within net arc)) edges

@@ -36,8 +36,8 @@ abbrev pub IsHubAt : Net → ℕ → List ℕ → ℕ → Type 0
 IsHubAt net hub path place = ((place ≡ 0) × IsFirst net hub path)
     ⊎ ((half : ℕ) × (place ≡ half + half + 2) × IsBehind net hub path half)
 
--- the edges from the base to the node at a place of the blossom, that way round on which there is an
--- even number of them
+-- the edges from the base to the node at a place of the blossom, that way round on which there is
+-- an even number of them
 abbrev pub way_to : List ℕ → ℕ → List ℕ
 way_to edges at = cond (at % 2 == 0) (take at edges) (take (length edges - at) (reverse edges))
 
@@ -48,7 +48,8 @@ pub record IsEndPlace (nodes : List ℕ) (from to place : ℕ) : Type 0 where
 
 -- the way from the base to a node of the blossom at which the edge behind a place ends, put into a
 -- path at that place
-pub record IsWithWay (net : Net) (b : Blossom) (path : List ℕ) (place : ℕ) (longer : List ℕ) : Type 0 where
+pub record IsWithWay
+    (net : Net) (b : Blossom) (path : List ℕ) (place : ℕ) (longer : List ℕ) : Type 0 where
   pub at : ℕ
   pub end_place : IsEndPlace b.nodes (source net (slice_index path place))
       (target net (slice_index path place)) at

@@ -15,9 +15,9 @@ use std::alloc::Global;
 
 /// A cover of the larger net for one of the smaller net in which the hub isn't labelled 1, where
 /// `contract` gives the smaller net for the same net and blossom. The nodes outside keep their
-/// labels, and those of the blossom have the hub's, or a new one where the hub is labelled 0. So its
-/// size is greater by half of one less than the blossom's number of nodes. In time and memory linear
-/// in the nodes.
+/// labels, and those of the blossom have the hub's, or a new one where the hub is labelled 0. So
+/// its size is greater by half of one less than the blossom's number of nodes. In time and memory
+/// linear in the nodes.
 ///
 /// # Errors
 /// `NoMemory` where the room isn't given.

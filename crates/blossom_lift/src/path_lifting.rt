@@ -45,7 +45,8 @@ pub fn lift_path(
     Row::from_slice(alloc, path)
 }
 
-// The even place of the path at which the hub is. Of a path of one edge either end may be the first.
+// The even place of the path at which the hub is. Of a path of one edge either end may be the
+// first.
 fn hub_place(net: &Net, hub: u32, path: &[u32]) -> Option<usize>
     requires { All (λ arc. arc < length net.now.arcs) path.now }
     ensures { MatchOption result

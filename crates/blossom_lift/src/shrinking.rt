@@ -18,8 +18,8 @@ use std::alloc::Global;
 /// The net in which the blossom's nodes are one, the hub, and the matching less the edges inside.
 /// The blossom is one of a matching of the net, and a stem leads to its base. The smaller net's
 /// matching leads to the hub in the same way, so that a cover of its size there doesn't label the
-/// hub 1. In time and memory linear in nodes, arcs and edges (J. Edmonds, Paths, trees, and flowers,
-/// 1965).
+/// hub 1. In time and memory linear in nodes, arcs and edges (J. Edmonds, Paths, trees, and
+/// flowers, 1965).
 ///
 /// # Errors
 /// `NoMemory` where the room isn't given.

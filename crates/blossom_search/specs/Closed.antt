@@ -6,8 +6,8 @@ use Rattle.graph_defs.specs.Net.{IsValid, source, target}
 use Rattle.graph_defs.specs.Matching.{IsMatching, IsOddSetCover, cover_size}
 use Rattle.match_core.specs.Path.{IsFree, IsStem}
 
--- two sets of nodes that may overlap: every free node is even, neighbours of even nodes are odd, odd
--- nodes aren't free, and what the matching joins to an odd node is even
+-- two sets of nodes that may overlap: every free node is even, neighbours of even nodes are odd,
+-- odd nodes aren't free, and what the matching joins to an odd node is even
 pub record AreClosed (net : Net) (edges : List ℕ) (even odd : ℕ → Bool) : Type 0 where
   pub free : (v : ℕ) → v < net.n → IsFree net edges v → even v ≡ true
   pub near_source : (arc : ℕ) → arc < length net.arcs → source net arc ≢ target net arc

@@ -12,8 +12,8 @@ even_count x first [] = cond (x == first) 1 0
 even_count x first (odd ∷ []) = cond (x == first) 1 0
 even_count x first (odd ∷ even ∷ nodes) = cond (x == first) 1 0 + even_count x even nodes
 
--- an arc to a node whose edge of the matching leads on, where neither end of it is at an even place:
--- the stem is longer by both
+-- an arc to a node whose edge of the matching leads on, where neither end of it is at an even
+-- place: the stem is longer by both
 abbrev pub StemsGrow : Type 0
 StemsGrow =
     (net : Net) (edges path : List ℕ) (from to : ℕ) (nodes : List ℕ) (out back odd even : ℕ)
@@ -31,7 +31,8 @@ StemsAugment =
     → IsAugmenting net edges (path ++ out ∷ [])
 
 -- the nodes from an even place on are a blossom, closed by an arc, and what is before is its stem
-pub record IsFlower (net : Net) (edges path : List ℕ) (nodes : List ℕ) (out place base : ℕ) : Type 0 where
+pub record IsFlower
+    (net : Net) (edges path : List ℕ) (nodes : List ℕ) (out place base : ℕ) : Type 0 where
   pub blossom : IsBlossom net edges (drop place path ++ out ∷ []) base (drop place nodes)
   pub stem : HasStem net edges (inside (base ∷ drop place nodes)) base
 

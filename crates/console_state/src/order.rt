@@ -72,8 +72,8 @@ impl Session {
         }
     }
 
-    /// Whether one look at each argument shows that nothing is in the way of the command, as it does
-    /// for most commands. It doesn't look at names of objects and at items of containers.
+    /// Whether one look at each argument shows that nothing is in the way of the command, as it
+    /// does for most commands. It doesn't look at names of objects and at items of containers.
     fn is_free(&self, word: Word, forms: &[Form], args: &[Arg]) -> bool
         ensures { OnTrue result (refusal_among self.now word forms.now args.now ≡ None) }
     {

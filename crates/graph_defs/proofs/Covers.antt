@@ -93,7 +93,7 @@ times_below labels label (suc k) h =
     let m = times_more label labels k (omega arith) in
     subst P e (omega arith)
 
-times_nodes : (labels : List ℕ) (label n : ℕ) → length labels ≡ n → times label labels ≡ total_below (has_label labels label) n
+pub times_nodes : (labels : List ℕ) (label n : ℕ) → length labels ≡ n → times label labels ≡ total_below (has_label labels label) n
 times_nodes labels label n e =
     let t = times_below labels label n (omega arith) in
     let a = ap (times label) (take_all n labels (omega arith)) in

@@ -9,8 +9,8 @@ pub struct ListHead {
     pub shown: Head,
 }
 
-/// What an element is in its list by (a hook, as intrusive lists call it): its member of the ring of
-/// all elements, and that of the ring of those that show.
+/// What an element is in its list by (a hook, as intrusive lists call it): its member of the ring
+/// of all elements, and that of the ring of those that show.
 #[derive(Clone, Copy, Drop)]
 pub struct Hook {
     pub full: Member,

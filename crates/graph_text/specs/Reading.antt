@@ -59,7 +59,8 @@ header_in line =
 -- the name of a type
 abbrev pub type_in : Line → Result (List ℕ) Fault
 type_in line =
-    if nat_lt TYPE_LIMIT (length line.bytes) then Err (fault_at kinds.Limit line.number) else Ok line.bytes
+    if nat_lt TYPE_LIMIT (length line.bytes) then Err (fault_at kinds.Limit line.number)
+    else Ok line.bytes
 
 -- whether the graph is directed, if the line says so
 abbrev pub direction_in : Line → Result (Option Bool) Fault

@@ -51,7 +51,8 @@ unfoldable pub plain_of : GraphState → PlainGraph
 plain_of s = record {
   directed = s.directed;
   node_type = file_type (list_all is_empty (plain_nodes s)) s.node_type;
-  edge_type = file_type (list_all (λ (e : PlainEdge). is_empty e.label) (plain_edges s)) s.edge_type;
+  edge_type =
+      file_type (list_all (λ (e : PlainEdge). is_empty e.label) (plain_edges s)) s.edge_type;
   nodes = plain_nodes s;
   edges = plain_edges s;
 }

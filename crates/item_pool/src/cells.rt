@@ -88,7 +88,8 @@ impl<T> Cells<T> {
         requires len { len ≡ length self.old }
         requires slots { len + (len + FIRST_BLOCK) < 2 ^ 32 }
         requires numbers { free + (len + FIRST_BLOCK) < 2 ^ 32 }
-        ensures ok { OnOk result (self.new ≡ self.old ++ chained (len + FIRST_BLOCK) len free next) }
+        ensures ok { OnOk result
+            (self.new ≡ self.old ++ chained (len + FIRST_BLOCK) len free next) }
         ensures err { OnErr result (self.new ≡ self.old) }
     {
         self.blocks.reserve(1)?;

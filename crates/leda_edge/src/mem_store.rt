@@ -1,5 +1,5 @@
-//! A store in memory, for tests: which files it has and which of its calls fail is laid down when it
-//! is made.
+//! A store in memory, for tests: which files it has and which of its calls fail is laid down when
+//! it is made.
 ghost use Rattle.std.specs.Prelude.{◌≡◌, ◌⊎◌, ◌↔◌, ◌≤◌, Some, IfOk, IsErr, OnOk, IsErrOf, Contains, map, option_map, vec_len};
 ghost use Rattle.std.specs.List.{position};
 ghost use Rattle.std.specs.Str.{bytes_eq};

@@ -36,8 +36,8 @@ fn is_covered(labels: &[u32], from: u32, to: u32) -> bool
     (from == to || label == 1) || (other == 1 || (label == other && label >= 2))
 }
 
-// The nodes labelled 1, and of each later label's nodes one half, rounded down: of these each second
-// one counts.
+// The nodes labelled 1, and of each later label's nodes one half, rounded down: of these each
+// second one counts.
 pub(crate) fn size_of(alloc: Global, labels: &[u32]) -> Result<u32, NoMemory>
     requires { length labels.now ≤ NODE_LIMIT }
     ensures { IfOk result (λ size. size ≡ cover_size labels.now) }

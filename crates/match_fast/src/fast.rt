@@ -27,8 +27,8 @@ pub(crate) fn propose(alloc: Global, net: &Net) -> Result<MatchAnswer, NoMemory>
     })
 }
 
-// The labels: 1 for odd nodes, 0 for even ones by themselves, one label for each blossom, and of the
-// nodes outside the forest 1 for the first and 2 for the others.
+// The labels: 1 for odd nodes, 0 for even ones by themselves, one label for each blossom, and of
+// the nodes outside the forest 1 for the first and 2 for the others.
 fn cover_of(alloc: Global, forest: &mut Forest) -> Result<Vec<u32>, NoMemory> {
     let names = names_of(alloc, forest)?;
     let mut labels = vec![in alloc; 0u32; forest.n as usize]?;

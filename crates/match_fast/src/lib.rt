@@ -2,7 +2,8 @@
 //! call that checks what it finds.
 //!
 //! `max_matching` proposes an answer, and gives it where it is found to be right; else it asks a
-//! search that is known to be complete. So the contract of the call doesn't lean on the fast search.
+//! search that is known to be complete. So the contract of the call doesn't lean on the fast
+//! search.
 //!
 //! The search begins with a matching by the rules for nodes of degree one and two (R. M. Karp and
 //! M. Sipser, Maximum matchings in sparse random graphs, 1981), and grows one forest of alternating

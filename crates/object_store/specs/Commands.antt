@@ -48,7 +48,8 @@ make kind name s =
 -- one item more, with the next number, where the object of the name then has these items
 abbrev pub enters : List ℕ → Object → List Cell → ObjectState → Outcome ObjectState
 enters name o cells s = unless (full_cell s) s
-    (done (record (with_cells name o cells s) { made = s.made + 1 }) (Name (items.Cell (s.made + 1))))
+    (done (record (with_cells name o cells s) { made = s.made + 1 })
+    (Name (items.Cell (s.made + 1))))
 
 -- the next item, with these values
 abbrev pub next : List ℤ → ObjectState → Cell

@@ -40,7 +40,8 @@ kind_back Dict = refl
 kind_back Queue = refl
 
 abbrev pub object_code : Coded Object
-object_code = code_by (ℕ × List Cell) (coded× coded_ℕ (coded_list (coded× coded_ℕ (coded_list coded_ℤ))))
+object_code = code_by (ℕ × List Cell)
+    (coded× coded_ℕ (coded_list (coded× coded_ℕ (coded_list coded_ℤ))))
     (λ o. (kind_number o.kind, o.cells)) (λ p. record { kind = kind_of_number p.0; cells = p.1 })
     (λ o. λ i. record { kind = kind_back o.kind i; cells = o.cells })
 

@@ -1,4 +1,5 @@
--- The words of commands that are one call with a parameter, and the kinds of objects that they take.
+-- The words of commands that are one call with a parameter, and the kinds of objects that they
+-- take.
 use Rattle.std.specs.Prelude.{ℕ, ℤ, List}
 use Rattle.script_text.specs.declared.form.Kinds.{Kinds}
 use Rattle.script_text.specs.declared.form.Kinds.TheVariants as kinds

@@ -90,7 +90,8 @@ impl Object {
 
 /// The number of the first item of a list.
 fn first_number(list: &List<Entry>) -> Option<u32>
-    ensures { MatchOption result (inner (held.List list.now) ≡ []) (HasNumber (held.List list.now)) }
+    ensures { MatchOption result (inner (held.List list.now) ≡ [])
+        (HasNumber (held.List list.now)) }
 {
     match list.first() {
         Some(item) => match list.contents(item) {
@@ -104,7 +105,8 @@ fn first_number(list: &List<Entry>) -> Option<u32>
 /// The number of the item of the least key.
 fn least_number(dict: &Dict<Entry>) -> Option<u32>
     requires { IsDistinct (serials (inner (held.Dict dict.now))) }
-    ensures { MatchOption result (inner (held.Dict dict.now) ≡ []) (HasNumber (held.Dict dict.now)) }
+    ensures { MatchOption result (inner (held.Dict dict.now) ≡ [])
+        (HasNumber (held.Dict dict.now)) }
 {
     match dict.min() {
         Some(item) => match dict.inf(item) {

@@ -1,4 +1,5 @@
-//! The objects of a session by name: lists, dictionaries and queues, whose items have one numbering.
+//! The objects of a session by name: lists, dictionaries and queues, whose items have one
+//! numbering.
 //!
 //! `specs/State.antt` has the state, `specs/Views.antt` which object has a name or an item, and
 //! `specs/Commands.antt` what each command does and answers, row by row. The rows of which
@@ -11,7 +12,8 @@
 //! - `part` and `look`: what is read of an item and written to it; `near`: the items at the ends of
 //!   a list, and neighbours.
 //! - `change`: how a container changes that keeps its items; `drop`: how an object goes.
-//! - `edits` and `objects`: the commands, and the session's objects; `apply`: a command by its word.
+//! - `edits` and `objects`: the commands, and the session's objects; `apply`: a command by its
+//!   word.
 //!
 //! An item is found by its number in one look into a pool, which has the place of its object and
 //! the item that the container gave it. A container's own serials rise as the numbers do, so the

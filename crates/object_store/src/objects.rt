@@ -269,7 +269,8 @@ impl Objects {
     /// them. It takes no memory.
     pub fn move_to(&mut self, end: End, number: u32) -> Reply
         requires { holds self.old kinds.List number ≡ true }
-        ensures leads { Leads false (objects_done (moving_word end) (args.Cell number ∷ []) self.old)
+        ensures leads { Leads false
+            (objects_done (moving_word end) (args.Cell number ∷ []) self.old)
             self.old result self.new }
         ensures named { IsNamed result }
         ensures short { IsShort result }
@@ -288,7 +289,8 @@ impl Objects {
     /// `reverse_items X`: turns a list round, in constant time and without memory.
     pub fn reverse_items(&mut self, name: &[u8]) -> Reply
         requires { has self.old kinds.List name.now ≡ true }
-        ensures leads { Leads false (objects_done words.ReverseItems (args.Name name.now ∷ []) self.old)
+        ensures leads { Leads false
+            (objects_done words.ReverseItems (args.Name name.now ∷ []) self.old)
             self.old result self.new }
         ensures named { IsNamed result }
         ensures short { IsShort result }
@@ -315,7 +317,8 @@ impl Objects {
     /// memory.
     pub fn drop_object(&mut self, name: &[u8]) -> Reply
         requires { has self.old kinds.Any name.now ≡ true }
-        ensures leads { Leads false (objects_done words.DropObject (args.Name name.now ∷ []) self.old)
+        ensures leads { Leads false
+            (objects_done words.DropObject (args.Name name.now ∷ []) self.old)
             self.old result self.new }
         ensures named { IsNamed result }
         ensures short { IsShort result }

@@ -1,4 +1,5 @@
--- Private: nodes that are found one after another along open arcs, and the marks of those that were.
+-- Private: nodes that are found one after another along open arcs, and the marks of those that
+-- were.
 use Rattle.std.specs.Prelude.{◌≡◌, ℕ, ◌+◌, ◌<◌, ◌≤◌, ⊤, Bool, true, false, not, cond, List, [], ◌∷◌, ◌++◌, length, map, slice_set, slice_index_or}
 use Rattle.std.specs.List.{Contains, count_by}
 use Rattle.graph_defs.specs.declared.grouped.Incidence.{Incidence}
@@ -50,8 +51,8 @@ found_by head entry = record { node = entry.end; why = Arc entry.number; before 
 abbrev pub StandOnce : List Found → List Bool → Type 0
 StandOnce queue marks = (v : ℕ) → times v (found_nodes queue) ≡ cond (is_marked marks v) 1 0
 
--- the open ones among the first j entries of a row led to nodes that are marked now, and what is new
--- was found by them
+-- the open ones among the first j entries of a row led to nodes that are marked now, and what is
+-- new was found by them
 pub record HasSpread (row : List Incidence) (opened : List Bool) (head j : ℕ) (queue : List Found)
     (marks : List Bool) (queue' : List Found) (marks' : List Bool) : Type 0 where
   pub long : length marks' ≡ length marks

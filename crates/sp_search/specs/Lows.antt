@@ -99,7 +99,8 @@ pub record HasMore (net : Net) (opened : List Bool) (seed : Seed) (queue : List 
     (seeds' : List Seed) : Type 0 where
   pub met_queue : List Found
   pub met_marks : List Bool
-  pub met : HasMet net opened (length seeds) seed.cycle (length seed.cycle) queue marks met_queue met_marks
+  pub met : HasMet net opened (length seeds) seed.cycle (length seed.cycle) queue marks
+      met_queue met_marks
   pub grown : HasGrown met_queue met_marks queue' marks'
   pub is : IsFinding net opened queue' marks'
   pub closed : IsClosedAlong net opened marks'

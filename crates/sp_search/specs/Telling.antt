@@ -71,4 +71,5 @@ pub record IsWhole (cost : List ℤ) (queue : List Found) (marks : List Bool) (l
   pub told : AreTold cost queue (length queue) a.finite
   pub seeds_are : a.seeds ≡ seeds
   pub low_are : a.low ≡ map low_of low_queue
-  pub unreached_are : a.unreached ≡ filter (neither marks low_marks) (range_with_len 0 (length marks))
+  pub unreached_are : a.unreached
+      ≡ filter (neither marks low_marks) (range_with_len 0 (length marks))

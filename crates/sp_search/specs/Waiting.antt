@@ -11,7 +11,8 @@ use Rattle.sp_search.specs.Labels.{label_at}
 
 -- the order of a heap, in which the least label is the greatest entry
 abbrev pub least_cmp : Least → Least → Ordering
-least_cmp = then_cmp (flip_args (on (λ (x : Least). x.dist) int_cmp)) (on (λ (x : Least). x.node) nat_cmp)
+least_cmp = then_cmp (flip_args (on (λ (x : Least). x.dist) int_cmp))
+    (on (λ (x : Least). x.node) nat_cmp)
 
 -- each label stands in the heap, with its node; what else stands there are nodes too
 pub record AreWaiting (items : List Least) (labels : List Label) : Type 0 where

@@ -14,10 +14,10 @@ use std::alloc::Global;
 /// The distances of all nodes from `s`, each with the last arc of a shortest walk, and the nodes to
 /// which no walk leads.
 ///
-/// E. W. Dijkstra's search (A note on two problems in connexion with graphs, 1959): the finite nodes
-/// stand in the order of their distances, so the source comes first, and no node has walks below
-/// every number. The costs are one for each arc. The labels wait in a binary heap, so the time is
-/// O((n + m) log m), and the memory is linear in the nodes n and the arcs m.
+/// E. W. Dijkstra's search (A note on two problems in connexion with graphs, 1959): the finite
+/// nodes stand in the order of their distances, so the source comes first, and no node has walks
+/// below every number. The costs are one for each arc. The labels wait in a binary heap, so the
+/// time is O((n + m) log m), and the memory is linear in the nodes n and the arcs m.
 ///
 /// # Errors
 /// `Negative` exactly where a cost is below 0, with the first such arc; else `Bound` exactly where

@@ -48,9 +48,11 @@ impl Ord for Least {
 }
 
 impl PartialOrd for Least {
-    ghost partial_cmp = { as_partial_cmp (then_cmp (flip_args (on (λ x. x.dist) int_cmp)) (on (λ x. x.node) nat_cmp)) };
+    ghost partial_cmp = { as_partial_cmp
+        (then_cmp (flip_args (on (λ x. x.dist) int_cmp)) (on (λ x. x.node) nat_cmp)) };
 
-    ghost laws = { partial_order_from_own_ties (Prim.search (comparing, rules)) (Prim.search (comparing, rules)) };
+    ghost laws = { partial_order_from_own_ties
+        (Prim.search (comparing, rules)) (Prim.search (comparing, rules)) };
 
     fn partial_cmp(&self, other: &Least) -> Option<Ordering> {
         Some(self.cmp(other))

@@ -62,7 +62,8 @@ fn meet(found: &mut Finding, net: &Net, cycle: &[u32], number: u32) -> Result<()
     requires valid { IsValid net.now }
     requires cycle { AreBelow (length net.now.arcs) cycle.now }
     requires marks { length found.old.marks.items ≡ net.now.n }
-    ensures { (opened : List Bool) → IsFinding net.now opened found.old.queue.items found.old.marks.items
+    ensures { (opened : List Bool)
+        → IsFinding net.now opened found.old.queue.items found.old.marks.items
         → OnOk result (HasMet net.now opened number cycle.now (length cycle.now)
         found.old.queue.items found.old.marks.items found.new.queue.items
         found.new.marks.items) }

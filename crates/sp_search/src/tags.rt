@@ -90,7 +90,8 @@ fn relax(net: &Net, cost: &[i64], shut: &[bool], tags: &mut Vec<Tag>, arc: u32) 
     requires shut { length shut.now ≡ net.now.n }
     requires tags { length tags.old.items ≡ net.now.n }
     requires above { AreAbove tags.old.items (9 * 10 ^ 31) }
-    ensures { MatchBool result (HasFallen net.now cost.now shut.now arc tags.old.items tags.new.items)
+    ensures { MatchBool result
+        (HasFallen net.now cost.now shut.now arc tags.old.items tags.new.items)
         (HasStayed net.now cost.now shut.now arc tags.old.items tags.new.items) }
 {
     let to = target_of(net, arc);

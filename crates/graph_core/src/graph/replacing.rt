@@ -152,9 +152,9 @@ impl Graph {
         Ok(graph)
     }
 
-    /// The graph becomes the one that a valid plain graph describes, of its kind and with its types.
-    /// All nodes and edges that were there are gone; those of the plain graph get the next numbers,
-    /// and nothing is hidden. Where a graph is refused, all is as before.
+    /// The graph becomes the one that a valid plain graph describes, of its kind and with its
+    /// types. All nodes and edges that were there are gone; those of the plain graph get the next
+    /// numbers, and nothing is hidden. Where a graph is refused, all is as before.
     ///
     /// # Errors
     ///
