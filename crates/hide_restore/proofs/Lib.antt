@@ -1,6 +1,10 @@
+pub mod Again
+pub mod BySource
 pub mod Law
 pub mod NodeLaw
 pub mod Numbers
 pub mod Ordered
+pub mod Paired
+pub mod Rebuilt
 pub mod Valid
 pub mod Visible

@@ -98,7 +98,7 @@ placed (Some place) v xs is i = ap Some is.1
 
 module _ (s : GraphState) (f : IsFormed s) where
   -- an edge that begins at a node is visible, and the node is its source
-  from_has : (e v : ℕ) → Has e (edges_from s v) → Has e s.edges × ((shows_edge s e ≡ true) × (v ≡ source s e))
+  pub from_has : (e v : ℕ) → Has e (edges_from s v) → Has e s.edges × ((shows_edge s e ≡ true) × (v ≡ source s e))
   unfolding node_of
   from_has e v i =
       let h = has_filter (shows_dart s) (front e) (out_list s v) (fronts_has e (visible_out s v) i) in

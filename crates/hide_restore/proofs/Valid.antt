@@ -63,7 +63,7 @@ named : (bare : Bool) → IsTypeName (cond bare (codes "void") (codes "string"))
 named true = record { some = omega arith; short = omega arith; one_line = refl; first = refl; last = refl; mark = refl }
 named false = record { some = omega arith; short = omega arith; one_line = refl; first = refl; last = refl; mark = refl }
 
-stays : (bare : Bool) (name : List ℕ) → IsTypeName name → file_type bare name ≡ name
+pub stays : (bare : Bool) (name : List ℕ) → IsTypeName name → file_type bare name ≡ name
 stays bare name is = elim (nat_tells (length name) 0) [
   | inl y ↦ let some = is.some in absurd (omega (arith, y.1, some))
   | inr n ↦ ap (λ b. cond b (cond bare (codes "void") (codes "string")) name) n.0
@@ -97,22 +97,22 @@ got g v (x ∷ xs) i = elim (nat_tells x v) [
       (subst (λ k. slice_get (map g (x ∷ xs)) k ≡ Some (g v)) one (got g v xs (elim i [ inl e ↦ absurd (n.1 (sym e)) | inr j ↦ j ])))
 ]
 
-place_behind : (v : ℕ) (xs rest : List ℕ) → (Has v xs → ⊥) → place_of v (xs ++ v ∷ rest) ≡ length xs
+pub place_behind : (v : ℕ) (xs rest : List ℕ) → (Has v xs → ⊥) → place_of v (xs ++ v ∷ rest) ≡ length xs
 place_behind v [] rest out = ap (λ b. cond b 0 (place_of v rest + 1)) (same_is ◌==◌ nat_tells v v refl)
 place_behind v (x ∷ xs) rest out =
     ap (λ b. cond b 0 (place_of v (xs ++ v ∷ rest) + 1)) (same_not ◌==◌ nat_tells x v (λ e. out (inl (sym e))))
     ∙ ap (λ n. n + 1) (place_behind v xs rest (λ i. out (inr i))) ∙ (omega arith)
 
-once_apart : (v : ℕ) (xs rest : List ℕ) → IsOnce (xs ++ v ∷ rest) → Has v xs → ⊥
+pub once_apart : (v : ℕ) (xs rest : List ℕ) → IsOnce (xs ++ v ∷ rest) → Has v xs → ⊥
 once_apart v [] rest o i = i
 once_apart v (x ∷ xs) rest o (inl e) = o.0 (has_right x xs (v ∷ rest) (inl (sym e)))
 once_apart v (x ∷ xs) rest o (inr i) = once_apart v xs rest o.1 i
 
-push_seam : (ys zs : List ℕ) (x : ℕ) → (ys ++ x ∷ []) ++ zs ≡ ys ++ x ∷ zs
+pub push_seam : (ys zs : List ℕ) (x : ℕ) → (ys ++ x ∷ []) ++ zs ≡ ys ++ x ∷ zs
 push_seam [] zs x = refl
 push_seam (y ∷ ys) zs x = ap (λ us. y ∷ us) (push_seam ys zs x)
 
-length_one : (ys : List ℕ) (x : ℕ) → length (ys ++ x ∷ []) ≡ length ys + 1
+pub length_one : (ys : List ℕ) (x : ℕ) → length (ys ++ x ∷ []) ≡ length ys + 1
 length_one [] x = omega arith
 length_one (y ∷ ys) x = let r = length_one ys x in omega (arith, r)
 

@@ -1,3 +1,4 @@
+pub mod Again
 pub mod Canon
 pub mod Edits
 pub mod Net

@@ -16,7 +16,7 @@ pub use canon::plain;
 pub use hide::{
     HideRefusal, RestoreRefusal, hide_edge, hide_node, restore_all, restore_edge, restore_node,
 };
-pub use laws::{restoring_gives_back, restoring_nodes_gives_back};
+pub use laws::{restoring_gives_back, restoring_nodes_gives_back, what_is_read_is_written_again};
 pub use places::Places;
 pub use shown::{Shown, net};
 
