@@ -2,14 +2,14 @@
 use Rattle.std.proofs.Common.{◌≡◌, ◌⊎◌, inl, inr, ℕ, zero, suc, ◌+◌, ◌-◌, ◌/◌, ◌<◌, ◌≤◌, leb, Bool, true, false, ◌&&◌, ◌||◌, cond, eqb, List, [], ◌∷◌, length, map, take, get_or, refl, sym, ◌∙◌, ap, subst, All, arith}
 use Rattle.std.proofs.lemmas.Bool.{true≢false, cases_eq, eq-eqb, eqb-true, ne_eqb}
 use Rattle.std.proofs.lemmas.Bool.Decides.{nat_tests}
-use Rattle.std.proofs.lemmas.List.{get_or-map, length-map}
+use Rattle.std.proofs.lemmas.List.{take_all, get_or-map, length-map}
 use Rattle.graph_defs.specs.declared.net.Net.{Net}
 use Rattle.graph_defs.specs.Count.{times}
 use Rattle.graph_defs.specs.Net.{Ends, EndsBelow}
 use Rattle.graph_defs.specs.Sum.{total_below}
 use Rattle.graph_defs.specs.Matching.{covers, IsOddSetCover, greatest, halves, cover_size}
-use Rattle.graph_defs.proofs.Counts.{times_has, times_same}
-use Rattle.graph_defs.proofs.Covers.{greatest_is, has_label, times_nodes}
+use Rattle.graph_defs.proofs.Counts.{times_more, times_has, times_same}
+use Rattle.graph_defs.proofs.Covers.{greatest_is}
 use Rattle.graph_defs.proofs.Sums.{total_same, total_add, total_only, total_more, total_zero}
 use Rattle.match_core.specs.Path.{IsSimple}
 use Rattle.blossom_lift.specs.Contraction.{inside, rank, image_of, image_ends, IsContracted}
@@ -134,6 +134,26 @@ lifted_covers net small edges left p b cover large ends c o a f =
     }
 
 -- ---- labels counted over the nodes
+has : ℕ → List ℕ → ℕ → ℕ
+has label labels v = cond (eqb label (get_or labels v 0)) 1 0
+
+times_below : (labels : List ℕ) (label k : ℕ) → k ≤ length labels → times label (take k labels) ≡ total_below (has label labels) k
+unfolding has
+times_below [] label zero h = refl
+times_below (l ∷ labels) label zero h = refl
+times_below labels label (suc k) h =
+    let e : k + 1 ≡ suc k = omega arith in
+    let P : ℕ → Type 0 = λ j. times label (take j labels) ≡ total_below (has label labels) k + has label labels k in
+    let i = times_below labels label k (omega arith) in
+    let m = times_more label labels k (omega arith) in
+    subst P e (omega arith)
+
+times_nodes : (labels : List ℕ) (label n : ℕ) → length labels ≡ n → times label labels ≡ total_below (has label labels) n
+times_nodes labels label n e =
+    let t = times_below labels label n (omega arith) in
+    let a = ap (times label) (take_all n labels (omega arith)) in
+    omega arith
+
 pub size_in : (ℕ → Bool) → ℕ → ℕ
 size_in p n = total_below (λ v. cond (p v) 1 0) n
 
@@ -170,14 +190,14 @@ case_in p b x label false = refl
 
 pub grown : (n : ℕ) (p : ℕ → Bool) (b : ℕ) (small large : List ℕ) (label : ℕ) → length small ≡ rank p n + 1 → AreLifted n p b small large
     → times label large + cond (eqb label (get_or small (rank p n) 0)) 1 0 ≡ times label small + cond (eqb label b) (size_in p n) 0
-unfolding has_label
+unfolding has
 grown n p b small large label long a =
     let s = times_nodes small label (rank p n + 1) long in
     let l = times_nodes large label n a.long in
-    let m = total_more (has_label small label) (rank p n) in
-    let e = total_same (has_label large label) (λ v. cond (p v) (cond (eqb label b) 1 0) (has_label small label (rank p v))) n
+    let m = total_more (has label small) (rank p n) in
+    let e = total_same (has label large) (λ v. cond (p v) (cond (eqb label b) 1 0) (has label small (rank p v))) n
     (λ v k. ap (λ (x : ℕ). cond {A = ℕ} (eqb label x) 1 0) (a.each v k) ∙ case_in p b (get_or small (rank p v) 0) label (p v)) in
-    let q = split_sum p (eqb label b) (has_label small label) n in
+    let q = split_sum p (eqb label b) (has label small) n in
     omega arith
 
 -- ---- halves

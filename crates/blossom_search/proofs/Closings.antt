@@ -1,13 +1,14 @@
 -- The labels of closed sets are a cover of the matching's size.
 use Rattle.std.proofs.Common.{◌≡◌, ◌≢◌, ◌⊎◌, inl, inr, ℕ, zero, suc, ◌+◌, ◌*◌, ◌/◌, ◌<◌, ◌≤◌, Bool, true, false, ◌||◌, cond, eqb, List, [], ◌∷◌, length, get_or, take, refl, sym, ◌∙◌, ap, subst, arith}
 use Rattle.std.proofs.lemmas.Bool.{true≢false, cases_eq, eq-eqb, ne_eqb}
+use Rattle.std.proofs.lemmas.List.{take_all}
 use Rattle.graph_defs.specs.declared.net.Net.{Net}
 use Rattle.graph_defs.specs.Count.{times}
 use Rattle.graph_defs.specs.Net.{Ends, IsValid, source, target}
 use Rattle.graph_defs.specs.Sum.{total_below}
 use Rattle.graph_defs.specs.Matching.{is_end, degree, IsMatching, IsOddSetCover, covers, greatest, halves, cover_size}
-use Rattle.graph_defs.proofs.Counts.{times_has}
-use Rattle.graph_defs.proofs.Covers.{greatest_is, has_label, times_nodes}
+use Rattle.graph_defs.proofs.Counts.{times_more, times_has}
+use Rattle.graph_defs.proofs.Covers.{greatest_is}
 use Rattle.graph_defs.proofs.Sums.{total_same, total_add, total_only, total_zero}
 use Rattle.blossom_lift.proofs.Ranks.{bool_cases}
 use Rattle.blossom_lift.proofs.Degrees.{All_at, times_head, bit_true, bit_false}
@@ -178,6 +179,26 @@ costs net edges even odd valid m c =
     omega arith
 
 -- ---- the labels counted
+has : ℕ → List ℕ → ℕ → ℕ
+has label labels v = cond (eqb label (get_or labels v 0)) 1 0
+
+times_below : (labels : List ℕ) (label k : ℕ) → k ≤ length labels → times label (take k labels) ≡ total_below (has label labels) k
+unfolding has
+times_below [] label zero h = refl
+times_below (l ∷ labels) label zero h = refl
+times_below labels label (suc k) h =
+    let e : k + 1 ≡ suc k = omega arith in
+    let P : ℕ → Type 0 = λ j. times label (take j labels) ≡ total_below (has label labels) k + has label labels k in
+    let i = times_below labels label k (omega arith) in
+    let m = times_more label labels k (omega arith) in
+    subst P e (omega arith)
+
+times_nodes : (labels : List ℕ) (label n : ℕ) → length labels ≡ n → times label labels ≡ total_below (has label labels) n
+times_nodes labels label n e =
+    let t = times_below labels label n (omega arith) in
+    let a = ap (times label) (take_all n labels (omega arith)) in
+    omega arith
+
 small_label : (e o : Bool) → label_of e o ≤ 2
 small_label true true = omega arith
 small_label true false = omega arith
@@ -192,13 +213,13 @@ split_cost false true = refl
 split_cost false false = refl
 
 counted_cost : (n : ℕ) (even odd : ℕ → Bool) (labels : List ℕ) → AreLabels n even odd labels → total_below (λ v. cost (label_of (even v) (odd v))) n ≡ times 1 labels + times 1 labels + times 2 labels
-unfolding has_label
+unfolding has
 counted_cost n even odd labels a =
-    let e : (x v : ℕ) → v < n → cond {A = ℕ} (eqb x (label_of (even v) (odd v))) 1 0 ≡ has_label labels x v = λ x v l. ap (λ (y : ℕ). cond {A = ℕ} (eqb x y) 1 0) (sym (a.each v l)) in
-    let s = total_same (λ v. cost (label_of (even v) (odd v))) (λ v. (has_label labels 1 v + has_label labels 1 v) + has_label labels 2 v) n
+    let e : (x v : ℕ) → v < n → cond {A = ℕ} (eqb x (label_of (even v) (odd v))) 1 0 ≡ has x labels v = λ x v l. ap (λ (y : ℕ). cond {A = ℕ} (eqb x y) 1 0) (sym (a.each v l)) in
+    let s = total_same (λ v. cost (label_of (even v) (odd v))) (λ v. (has 1 labels v + has 1 labels v) + has 2 labels v) n
     (λ v l. let c = split_cost (even v) (odd v) in let x = e 1 v l in let y = e 2 v l in omega arith) in
-    let p = total_add (λ v. has_label labels 1 v + has_label labels 1 v) (has_label labels 2) n in
-    let q = total_add (has_label labels 1) (has_label labels 1) n in
+    let p = total_add (λ v. has 1 labels v + has 1 labels v) (has 2 labels) n in
+    let q = total_add (has 1 labels) (has 1 labels) n in
     let t1 = times_nodes labels 1 n a.long in
     let t2 = times_nodes labels 2 n a.long in
     omega arith
