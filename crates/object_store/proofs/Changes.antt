@@ -1,11 +1,10 @@
 -- A container changes and keeps its items: what it then has, and what the session has.
-use Rattle.std.proofs.Common.{◌≡◌, ℕ, ◌≤◌, ◌<◌, ◌≢◌, Bool, true, false, cond, List, [], ◌∷◌, ◌++◌, map, Option, Some, None, refl, sym, ap, subst, ◌∙◌, ◌⊎◌, inl, inr, ⊎_elim, arith}
-use Rattle.std.specs.Prelude.{ℤ, ◌≤ℤ◌, ◌<ℤ◌, ◌==◌, option_map, slice_get, reverse}
+use Rattle.std.proofs.Common.{◌≡◌, ℕ, ◌≢◌, Bool, true, false, cond, List, [], ◌∷◌, ◌++◌, map, Option, Some, None, refl, sym, ap, subst, ◌∙◌, inl, inr, ⊎_elim}
+use Rattle.std.specs.Prelude.{ℤ, ◌≤ℤ◌, ◌<ℤ◌, ◌==◌, option_map, reverse}
 use Rattle.std.specs.Int.Signed.{clash_ℤ}
 use Rattle.std.proofs.lemmas.Bool.{cases_eq}
 use Rattle.std.proofs.lemmas.Bool.Decides.{eqb_tells}
 use Rattle.std.proofs.lemmas.List.{reverse-append, reverse-reverse}
-use Rattle.std.specs.Ordering.{nat_cmp, int_cmp}
 use Rattle.std.specs.Cmp.{nat_cmp_total, int_cmp_total}
 use Rattle.std.specs.FinMap as finmap
 use Rattle.item_pool.specs.declared.pool.Item.{Item}
@@ -19,17 +18,16 @@ use Rattle.object_store.specs.declared.change.Change.{Change}
 use Rattle.object_store.specs.declared.change.Change.TheVariants.{Write, Move, Turn, Lower}
 use Rattle.object_store.specs.declared.entrance.End.{End}
 use Rattle.object_store.specs.declared.entrance.End.TheVariants as ends
-use Rattle.object_store.specs.declared.kind.ObjectKind.{ObjectKind}
 use Rattle.object_store.specs.declared.object.Entry.{Entry}
 use Rattle.object_store.specs.declared.object.Object.{Object as Held}
 use Rattle.object_store.specs.declared.object.Object.TheVariants as held
 use Rattle.object_store.specs.declared.objects.Place.{Place}
-use Rattle.object_store.specs.State.{Cell, ObjectState}
+use Rattle.object_store.specs.State.{Cell}
 use Rattle.object_store.specs.Cells.{head_of, inf_of, written}
 use Rattle.object_store.specs.Commands.{with_cells}
-use Rattle.object_store.specs.Inner.{Inner, inner, kind_of, made_in, list_cell, dict_cell, queue_cell, cells_in, seen}
+use Rattle.object_store.specs.Inner.{Inner, inner, kind_of, list_cell, dict_cell, queue_cell, cells_in, seen}
 use Rattle.object_store.specs.Entrance.{with_end, at_end}
-use Rattle.object_store.specs.Change.{Allows, Becomes, IsChanged}
+use Rattle.object_store.specs.Change.{Allows, IsChanged}
 use Rattle.object_store.specs.Kept.{Places, state_of, IsKept, Replaces}
 use Rattle.object_store.proofs.Entered.{list_value}
 use Rattle.object_store.proofs.Goes.{value_without, distinct_without}

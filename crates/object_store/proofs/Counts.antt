@@ -1,5 +1,5 @@
 -- The pool has as many items as there are.
-use Rattle.std.proofs.Common.{◌≡◌, ℕ, ◌≢◌, Bool, cond, Option, Some, None, is_some, refl, sym, ap, ◌∙◌}
+use Rattle.std.proofs.Common.{◌≡◌, ◌≢◌, cond, Option, Some, None, is_some, sym, ◌∙◌}
 use Rattle.std.specs.Prelude.{◌==◌}
 use Rattle.std.specs.FinMap as finmap
 use Rattle.item_pool.specs.declared.pool.TheConstants.{MOST_SERIALS}
@@ -9,7 +9,7 @@ use Rattle.reply_text.specs.declared.refusal.Refusal.TheVariants.{FullItems, Spe
 use Rattle.object_store.specs.declared.objects.Place.{Place}
 use Rattle.object_store.specs.declared.objects.TheConstants.{CELL_LIMIT}
 use Rattle.object_store.specs.Commands.{full_cell}
-use Rattle.object_store.specs.Views.{is_live, live_cells, passing}
+use Rattle.object_store.specs.Views.{is_live, live_cells}
 use Rattle.object_store.specs.Kept.{Places, state_of, IsKept}
 use Rattle.object_store.proofs.Holders.{live_is}
 use Rattle.object_store.proofs.Lists.{cond_true, cond_false}

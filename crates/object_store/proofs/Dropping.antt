@@ -1,5 +1,5 @@
 -- An object without items is dropped.
-use Rattle.std.proofs.Common.{◌≡◌, ℕ, zero, suc, ◌≢◌, List, [], ◌∷◌, length, Option, Some, None, refl, sym, ap, subst, ◌∙◌, ◌⊎◌, inl, inr, ⊎_elim}
+use Rattle.std.proofs.Common.{◌≡◌, ℕ, zero, suc, ◌≢◌, List, [], ◌∷◌, Some, None, refl, sym, ap, subst, ◌∙◌, inl, inr, ⊎_elim}
 use Rattle.std.specs.Prelude.{slice_get, slice_set, ⊤}
 use Rattle.std.proofs.lemmas.Bool.{cases_eq}
 use Rattle.std.specs.Ordering.{nat_cmp}
@@ -11,11 +11,11 @@ use Rattle.item_pool.specs.Contents.{Contents}
 use Rattle.object_store.specs.declared.objects.Place.{Place}
 use Rattle.object_store.specs.declared.object.Object.{Object as Held}
 use Rattle.object_store.specs.declared.slots.Named.{Named}
-use Rattle.object_store.specs.State.{Object, ObjectState}
+use Rattle.object_store.specs.State.{Object}
 use Rattle.object_store.specs.Commands.{without_object}
 use Rattle.object_store.specs.Inner.{inner, seen}
 use Rattle.object_store.specs.Slots.{objects_in}
-use Rattle.object_store.specs.Kept.{Places, state_of, IsAt, IsSaid, IsKept, HasAt, Replaces}
+use Rattle.object_store.specs.Kept.{Places, state_of, IsKept, HasAt, Replaces}
 use Rattle.object_store.proofs.Found.{alone_there, apart_set, objects_without}
 use Rattle.object_store.proofs.Names.{total, tells}
 use Rattle.object_store.proofs.Places.{at_within, at_else, at_set, from_set}

@@ -1,5 +1,5 @@
 -- A container has changed: what its row says of it.
-use Rattle.std.proofs.Common.{◌≡◌, ℕ, Bool, true, false, cond, List, [], ◌∷◌, ◌++◌, map, Option, Some, None, refl, sym, ap, subst, ◌∙◌}
+use Rattle.std.proofs.Common.{◌≡◌, ℕ, true, false, List, [], ◌∷◌, map, Some, refl, sym, ap, ◌∙◌}
 use Rattle.std.specs.Prelude.{ℤ, slice_get, reverse}
 use Rattle.item_pool.specs.Contents.{Contents}
 use Rattle.item_list.specs.Items.{value_at, pairs_with, pairs_without}
@@ -10,7 +10,7 @@ use Rattle.reply_text.specs.declared.reply.Reply.TheVariants.{Line}
 use Rattle.reply_text.specs.declared.reply.ReplyLine.TheVariants.{Empty, Num}
 use Rattle.reply_text.specs.Outcome.{Outcome, done}
 use Rattle.object_store.specs.declared.change.Change.{Change}
-use Rattle.object_store.specs.declared.change.Change.TheVariants.{Write, Move, Turn, Lower}
+use Rattle.object_store.specs.declared.change.Change.TheVariants.{Write, Move, Turn}
 use Rattle.object_store.specs.declared.entrance.End.{End}
 use Rattle.object_store.specs.declared.entrance.End.TheVariants as ends
 use Rattle.object_store.specs.declared.kind.ObjectKind.{ObjectKind}
@@ -25,7 +25,7 @@ use Rattle.object_store.specs.declared.slots.Named.{Named}
 use Rattle.script_text.specs.declared.word.ObjectWord.TheVariants as words
 use Rattle.object_store.specs.State.{Cell, Object, ObjectState}
 use Rattle.object_store.specs.Cells.{head_of, inf_of, written}
-use Rattle.object_store.specs.Commands.{objects_done, on_object, on_cell, with_cells}
+use Rattle.object_store.specs.Commands.{objects_done, on_cell, with_cells}
 use Rattle.object_store.specs.Views.{is_of, has_object}
 use Rattle.object_store.specs.Words.{read, reading_word, reading_kinds, writing_word, writing_kinds, moving_word}
 use Rattle.object_store.specs.Inner.{Inner, inner, kind_of, cell_in, cells_in, seen}

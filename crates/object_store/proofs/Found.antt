@@ -8,7 +8,7 @@ use Rattle.object_store.specs.declared.slots.Named.{Named}
 use Rattle.object_store.specs.State.{Object}
 use Rattle.object_store.specs.Inner.{seen}
 use Rattle.object_store.specs.Kept.{Places}
-use Rattle.object_store.specs.Slots.{same_name, entries_of, objects_in, found, taken, AreApart, HasName}
+use Rattle.object_store.specs.Slots.{same_name, entries_of, objects_in, found, taken, AreApart}
 use Rattle.object_store.proofs.Names.{total, tells, name_is, name_itself, name_of, name_not}
 
 -- the object in a place

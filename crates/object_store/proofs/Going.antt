@@ -1,23 +1,22 @@
 -- An item goes out of its container.
-use Rattle.std.proofs.Common.{◌≡◌, ℕ, ◌≢◌, Bool, true, false, cond, not, List, [], ◌∷◌, map, filter, Option, Some, None, refl, sym, ap, subst, ◌∙◌, ◌⊎◌, inl, inr, ⊎_elim}
+use Rattle.std.proofs.Common.{◌≡◌, ℕ, ◌≢◌, Bool, true, false, cond, List, [], ◌∷◌, map, Some, None, refl, sym, ap, subst, ◌∙◌, inl, inr, ⊎_elim}
 use Rattle.std.specs.Prelude.{ℤ, ◌==◌, ◌&&◌, ⊤, T, option_map}
 use Rattle.std.proofs.lemmas.Bool.{cases_eq}
 use Rattle.std.proofs.lemmas.Bool.Decides.{eqb_tells}
-use Rattle.std.specs.declared.cmp.Ordering.{Ordering}
 use Rattle.std.specs.declared.cmp.Ordering.TheVariants.{Less, Equal, Greater}
 use Rattle.std.specs.Ordering.{nat_cmp, int_cmp, is_lt, is_eq, eq_by_cmp}
 use Rattle.std.specs.Cmp.{nat_cmp_total, int_cmp_total, tied_itself}
 use Rattle.std.specs.FinMap as finmap
-use Rattle.std.specs.FinMap.Entries.{find, is_sorted, below_all, find_tied}
+use Rattle.std.specs.FinMap.Entries.{find, is_sorted, below_all}
 use Rattle.item_dict.proofs.Maps.{untied, same_or_not}
-use Rattle.item_list.specs.Items.{Items, value_at, pairs_without, Removes as ListRemoves}
+use Rattle.item_list.specs.Items.{Items, value_at, Removes as ListRemoves}
 use Rattle.item_dict.specs.Contents.{Contents as DictOf, HasNo, Removes as DictRemoves}
 use Rattle.item_queue.specs.Contents.{Queued, Removes as QueueRemoves}
 use Rattle.object_store.specs.declared.object.Entry.{Entry}
 use Rattle.object_store.specs.declared.object.Object.{Object as Held}
 use Rattle.object_store.specs.declared.object.Object.TheVariants as held
 use Rattle.object_store.specs.State.{Cell}
-use Rattle.object_store.specs.Inner.{Inner, inner, list_cell, dict_cell, queue_cell}
+use Rattle.object_store.specs.Inner.{inner, list_cell, dict_cell, queue_cell}
 use Rattle.object_store.specs.Entrance.{HasIt, Leaves}
 use Rattle.object_store.proofs.Goes.{AllTests, filter_without, entries_remove}
 use Rattle.object_store.proofs.Lists.{cond_true, cond_false}
@@ -80,16 +79,16 @@ queue_leaves s o q t p x is h = subst (λ (w : Held). Leaves s w (held.Queue t))
 })
 
 -- ---- dictionaries
-abbrev DictEntry : Type 0
+abbrev pub DictEntry : Type 0
 DictEntry = ℤ × (ℕ × Entry)
 
-front : (a b : Bool) → T (a && b) → T a
-front true b h = tt
-front false b h = h
+pub both_front : (a b : Bool) → T (a && b) → T a
+both_front true b h = tt
+both_front false b h = h
 
-rear : (a b : Bool) → T (a && b) → T b
-rear true b h = h
-rear false b h = absurd h
+pub both_rear : (a b : Bool) → T (a && b) → T b
+both_rear true b h = h
+both_rear false b h = absurd h
 
 less_untied : (k j : ℤ) → T (is_lt (int_cmp k j)) → eq_by_cmp int_cmp k j ≡ false
 less_untied k j h = elim (int_cmp k j) as (λ r. T (is_lt r) → is_eq r ≡ false) [ Less ↦ λ t. refl | Equal ↦ λ t. absurd t | Greater ↦ λ t. refl ] h
@@ -97,13 +96,13 @@ less_untied k j h = elim (int_cmp k j) as (λ r. T (is_lt r) → is_eq r ≡ fal
 below_absent : (k : ℤ) (es : List DictEntry) → T (below_all int_cmp k es) → find int_cmp k es ≡ None
 below_absent k [] h = refl
 below_absent k (e ∷ es) h =
-    cond_false (eq_by_cmp int_cmp k e.0) (Some e.1) (find int_cmp k es) (less_untied k e.0 (front (is_lt (int_cmp k e.0)) (below_all int_cmp k es) h))
-    ∙ below_absent k es (rear (is_lt (int_cmp k e.0)) (below_all int_cmp k es) h)
+    cond_false (eq_by_cmp int_cmp k e.0) (Some e.1) (find int_cmp k es) (less_untied k e.0 (both_front (is_lt (int_cmp k e.0)) (below_all int_cmp k es) h))
+    ∙ below_absent k es (both_rear (is_lt (int_cmp k e.0)) (below_all int_cmp k es) h)
 
 -- behind the first of sorted entries
 find_later : (k : ℤ) (v : ℕ × Entry) (e : DictEntry) (es : List DictEntry) → T (is_sorted int_cmp (e ∷ es)) → find int_cmp k es ≡ Some v → find int_cmp k (e ∷ es) ≡ Some v
 find_later k v e es sorted h = ⊎_elim
-    (λ (is : k ≡ e.0). absurd (none_some v (sym (below_absent e.0 es (front (below_all int_cmp e.0 es) (is_sorted int_cmp es) sorted)) ∙ ap (λ j. find int_cmp j es) (sym is) ∙ h)))
+    (λ (is : k ≡ e.0). absurd (none_some v (sym (below_absent e.0 es (both_front (below_all int_cmp e.0 es) (is_sorted int_cmp es) sorted)) ∙ ap (λ j. find int_cmp j es) (sym is) ∙ h)))
     (λ (ne : k ≢ e.0). cond_false (eq_by_cmp int_cmp k e.0) (Some e.1) (find int_cmp k es) (untied int_cmp_total finmap.int_cmp-IsAntisymmetric k e.0 ne) ∙ h)
     (same_or_not int_cmp_total finmap.int_cmp-IsAntisymmetric k e.0)
 
@@ -120,7 +119,7 @@ dict_find s c (e ∷ es) sorted h = elim (eqb_tells e.1.0 s) [
       let is : (e.1.1.number, e.0 ∷ e.1.1.value ∷ []) ≡ c = cc in
       (e.0, e.1.1, find_first e es ∙ ap (λ z. Some (z, e.1.1)) t.1, sym is)
   | inr t ↦
-      let w = dict_find s c es (rear (below_all int_cmp e.0 es) (is_sorted int_cmp es) sorted) (sym (cond_false (e.1.0 == s) (Some (e.1.1.number, e.0 ∷ e.1.1.value ∷ [])) (value_at s (map dict_cell es)) t.0) ∙ h) in
+      let w = dict_find s c es (both_rear (below_all int_cmp e.0 es) (is_sorted int_cmp es) sorted) (sym (cond_false (e.1.0 == s) (Some (e.1.1.number, e.0 ∷ e.1.1.value ∷ [])) (value_at s (map dict_cell es)) t.0) ∙ h) in
       (w.0, w.1, find_later w.0 (s, w.1) e es sorted w.2, w.3)
 ]
 
@@ -135,7 +134,7 @@ dict_has s o d is h none =
     none w.0 w.1 w.2
 
 -- each entry is found by its key
-abbrev AllFound : List DictEntry → List DictEntry → Type 0
+abbrev pub AllFound : List DictEntry → List DictEntry → Type 0
 AllFound whole [] = ⊤
 AllFound whole (e ∷ es) = (find int_cmp e.0 whole ≡ Some e.1) × AllFound whole es
 
@@ -145,7 +144,7 @@ later_found e whole (f ∷ es) sorted h = (find_later f.0 f.1 e whole sorted h.0
 
 pub all_found : (es : List DictEntry) → T (is_sorted int_cmp es) → AllFound es es
 all_found [] sorted = tt
-all_found (e ∷ es) sorted = (find_first e es, later_found e es es sorted (all_found es (rear (below_all int_cmp e.0 es) (is_sorted int_cmp es) sorted)))
+all_found (e ∷ es) sorted = (find_first e es, later_found e es es sorted (all_found es (both_rear (below_all int_cmp e.0 es) (is_sorted int_cmp es) sorted)))
 
 module _ (d : DictOf Entry) (s : ℕ) (k : ℤ) (x : Entry) (held_there : finmap.get d.triples k ≡ Some (s, x)) (alone : (j : ℤ) (y : Entry) → finmap.get d.triples j ≡ Some (s, y) → j ≡ k) where
   one_test : (e : DictEntry) → find int_cmp e.0 (finmap.entries d.triples) ≡ Some e.1 → (e.1.0 == s) ≡ eq_by_cmp int_cmp k e.0

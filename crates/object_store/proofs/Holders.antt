@@ -1,23 +1,22 @@
 -- The object of an item, as the pool says and as the objects say.
-use Rattle.std.proofs.Common.{◌≡◌, ℕ, ◌≢◌, Bool, true, false, cond, List, [], ◌∷◌, map, Option, Some, None, is_some, refl, sym, ap, subst, ◌∙◌, inl, inr}
-use Rattle.std.specs.Prelude.{ℤ, ◌==◌, ◌||◌, ⊤, find, option_map, slice_get}
+use Rattle.std.proofs.Common.{◌≡◌, ℕ, Bool, true, false, cond, List, [], ◌∷◌, map, Some, None, is_some, refl, sym, ap, ◌∙◌, inl, inr}
+use Rattle.std.specs.Prelude.{ℤ, ◌==◌, ◌||◌, find, option_map, slice_get}
 use Rattle.std.specs.List.{list_any}
 use Rattle.std.specs.Option.{option_map_or}
-use Rattle.std.specs.Ordering.{nat_cmp}
 use Rattle.std.specs.FinMap as finmap
 use Rattle.std.proofs.lemmas.Bool.Decides.{eqb_tells}
 use Rattle.item_pool.specs.Contents.{Contents}
-use Rattle.item_ring.specs.RingLists.{IsIn, IsDistinct}
+use Rattle.item_ring.specs.RingLists.{IsDistinct}
 use Rattle.item_list.specs.Items.{serials, value_at}
 use Rattle.object_store.specs.declared.objects.Place.{Place}
 use Rattle.object_store.specs.declared.slots.Named.{Named}
 use Rattle.object_store.specs.State.{Cell, Object, ObjectState}
 use Rattle.object_store.specs.Views.{has_cell, is_in, holder, is_live, object_at}
 use Rattle.object_store.specs.Inner.{Inner, inner, cell_in, cells_in, seen}
-use Rattle.object_store.specs.Slots.{same_name, objects_in, found}
-use Rattle.object_store.specs.Kept.{Places, state_of, IsAt, IsSaid, IsSound, IsKept}
-use Rattle.object_store.proofs.Names.{name_is, name_itself}
-use Rattle.object_store.proofs.Pairs.{Agrees, value_of, in_list, value_first, value_later, same_number, number_of, number_not}
+use Rattle.object_store.specs.Slots.{same_name, found}
+use Rattle.object_store.specs.Kept.{Places, state_of, IsSaid, IsKept}
+use Rattle.object_store.proofs.Names.{name_is}
+use Rattle.object_store.proofs.Pairs.{Agrees, value_of, value_first, value_later, number_of, number_not}
 use Rattle.object_store.proofs.Found.{get_objects, get_found, found_place}
 
 some_same : {A : Type 0} (a b : A) → Some a ≡ Some b → a ≡ b

@@ -1,6 +1,6 @@
 -- What is read of an item, as the object has it.
-use Rattle.std.proofs.Common.{◌≡◌, ℕ, ◌≢◌, Bool, true, false, cond, List, [], ◌∷◌, map, Option, Some, None, refl, sym, ap, subst, ◌∙◌, ◌⊎◌, inl, inr, ⊎_elim}
-use Rattle.std.specs.Prelude.{ℤ, T, option_map}
+use Rattle.std.proofs.Common.{◌≡◌, ℕ, ◌≢◌, true, false, List, [], ◌∷◌, map, Some, None, refl, sym, ap, subst, ◌∙◌, ◌⊎◌, inl, inr, ⊎_elim}
+use Rattle.std.specs.Prelude.{ℤ, option_map}
 use Rattle.std.specs.Ordering.{nat_cmp, int_cmp, is_eq, eq_by_cmp}
 use Rattle.std.specs.Cmp.{int_cmp_total, tied_itself}
 use Rattle.std.specs.FinMap as finmap
@@ -8,7 +8,7 @@ use Rattle.std.specs.FinMap.Entries.{find}
 use Rattle.item_dict.proofs.Maps.{untied, same_or_not}
 use Rattle.item_ring.specs.RingLists.{IsDistinct, front}
 use Rattle.item_list.specs.Items.{Items, serials, value_at}
-use Rattle.item_dict.specs.Contents.{Contents as DictOf}
+use Rattle.item_dict.specs.Contents.{Contents as DictOf, HasNo}
 use Rattle.item_queue.specs.Contents.{Queued}
 use Rattle.object_store.specs.declared.object.Entry.{Entry}
 use Rattle.object_store.specs.declared.object.Object.{Object as Held}
@@ -20,11 +20,11 @@ use Rattle.object_store.specs.State.{Cell}
 use Rattle.object_store.specs.Cells.{head_of}
 use Rattle.object_store.specs.Views.{is_of}
 use Rattle.object_store.specs.Words.{read, reading_kinds}
-use Rattle.object_store.specs.Inner.{Inner, inner, list_cell, dict_cell, queue_cell}
-use Rattle.object_store.specs.Entrance.{HasIt, HasNumber}
+use Rattle.object_store.specs.Inner.{inner, list_cell, dict_cell, queue_cell}
+use Rattle.object_store.specs.Entrance.{HasNumber}
 use Rattle.object_store.proofs.Entered.{list_value}
 use Rattle.object_store.proofs.Entries.{entries_empty}
-use Rattle.object_store.proofs.Going.{queue_holds, queue_value}
+use Rattle.object_store.proofs.Going.{dict_lacks, queue_holds, queue_value}
 use Rattle.object_store.proofs.Lists.{cond_true, cond_false}
 use Rattle.object_store.proofs.Pairs.{value_of, keeps, value_first, value_later}
 
@@ -97,3 +97,12 @@ head_read what vs h = elim h [
 
 pub list_gone : (l : Items Entry) (s : ℕ) → value_at s l.pairs ≡ None → value_at s (inner (held.List l)) ≡ None
 list_gone l s none = value_of list_cell s s (λ (x : Entry). (x.number, x.value ∷ [])) (λ p. refl) l.pairs (keeps list_cell (λ p. refl) s l.pairs) ∙ ap (λ o. option_map (λ (x : Entry). (x.number, x.value ∷ [])) o) none
+
+pub dict_gone : (d : DictOf Entry) (s : ℕ) → HasNo d s → value_at s (inner (held.Dict d)) ≡ None
+dict_gone d s lacks = elim (value_at s (inner (held.Dict d))) as (λ v. value_at s (inner (held.Dict d)) ≡ v → v ≡ None) [
+  | None ↦ λ e. refl
+  | Some c ↦ λ e. absurd (dict_lacks s d c e lacks)
+] refl
+
+pub queue_gone : (q : Queued Entry) (s : ℕ) → finmap.get q.live s ≡ None → value_at s (inner (held.Queue q)) ≡ None
+queue_gone q s none = queue_value s q ∙ ap (λ o. option_map queue_holds o) none

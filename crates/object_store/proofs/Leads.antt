@@ -1,25 +1,24 @@
 -- From what a command finds to what its row says.
-use Rattle.std.proofs.Common.{◌≡◌, ℕ, Bool, true, false, cond, List, Option, Some, None, is_some, refl, sym, ap, subst, ◌∙◌, ◌⊎◌, inl, inr, ⊎_elim}
+use Rattle.std.proofs.Common.{◌≡◌, ℕ, Bool, true, false, List, Option, Some, None, refl, sym, ap, subst, ◌∙◌, inl, inr, ⊎_elim}
 use Rattle.std.specs.Prelude.{ℤ, slice_get, option_map, option_and_then}
 use Rattle.std.specs.FinMap as finmap
 use Rattle.item_pool.specs.Contents.{Contents}
 use Rattle.item_list.specs.Items.{value_at}
 use Rattle.reply_text.specs.declared.reply.Reply.{Reply}
-use Rattle.reply_text.specs.Outcome.{Outcome, Gives, LacksMemory}
+use Rattle.reply_text.specs.Outcome.{Outcome, Gives}
 use Rattle.script_text.specs.declared.form.Kinds.{Kinds}
 use Rattle.object_store.specs.declared.objects.Place.{Place}
 use Rattle.object_store.specs.declared.slots.Named.{Named}
 use Rattle.object_store.specs.State.{Cell, Object, ObjectState}
-use Rattle.object_store.specs.Views.{is_of, of_kinds, has_object, object_of, object_at, holder_of, holds_cell}
+use Rattle.object_store.specs.Views.{is_of, has_object, object_of, holds_cell}
 use Rattle.script_text.specs.declared.argument.Arg.{Arg}
 use Rattle.script_text.specs.declared.word.ObjectWord.{ObjectWord}
 use Rattle.object_store.specs.Commands.{objects_done, on_object, on_cell}
-use Rattle.object_store.specs.Inner.{inner, kind_of, cells_in, seen}
-use Rattle.object_store.specs.Slots.{found, HasName}
+use Rattle.object_store.specs.Inner.{inner, kind_of, seen}
+use Rattle.object_store.specs.Slots.{found}
 use Rattle.object_store.specs.Kept.{Places, state_of, IsKept}
 use Rattle.object_store.specs.Leads.{Leads}
-use Rattle.object_store.proofs.Found.{get_objects}
-use Rattle.object_store.proofs.Holders.{object_there, holder_there, nobody_holds, value_there}
+use Rattle.object_store.proofs.Holders.{value_there}
 use Rattle.object_store.proofs.Lists.{cond_true}
 use Rattle.object_store.proofs.Looks.{object_of_there, has_there, has_none, holder_of_there, holds_there, holds_none}
 

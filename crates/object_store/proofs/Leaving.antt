@@ -1,17 +1,17 @@
 -- An item goes out of the object at a place, and out of the pool.
-use Rattle.std.proofs.Common.{◌≡◌, ℕ, ◌+◌, ◌<◌, ◌≤◌, ◌≢◌, Bool, true, false, cond, List, [], ◌∷◌, map, Option, Some, None, refl, sym, ap, subst, ◌∙◌, ◌⊎◌, inl, inr, ⊎_elim, arith}
+use Rattle.std.proofs.Common.{◌≡◌, ℕ, ◌+◌, ◌<◌, ◌≤◌, ◌≢◌, cond, List, map, Some, None, refl, sym, ap, subst, ◌∙◌, inl, inr, ⊎_elim, arith}
 use Rattle.std.specs.Prelude.{◌==◌, slice_get}
 use Rattle.std.proofs.lemmas.Bool.{cases_eq}
 use Rattle.std.specs.Ordering.{nat_cmp}
 use Rattle.std.specs.Cmp.{nat_cmp_total}
 use Rattle.std.specs.FinMap as finmap
-use Rattle.item_pool.specs.Contents.{Contents, Removes}
+use Rattle.item_pool.specs.Contents.{Contents}
 use Rattle.item_dict.proofs.Maps.{gone_here, gone_there, inserted, len_more}
 use Rattle.item_ring.specs.RingLists.{IsDistinct}
 use Rattle.item_list.specs.Items.{serials, value_at, pairs_without}
 use Rattle.object_store.specs.declared.objects.Place.{Place}
 use Rattle.object_store.specs.declared.slots.Named.{Named}
-use Rattle.object_store.specs.State.{Cell, Object, ObjectState}
+use Rattle.object_store.specs.State.{Cell}
 use Rattle.object_store.specs.Commands.{with_cells}
 use Rattle.object_store.specs.Inner.{Inner, inner, made_in, kind_of, cell_in, cells_in, seen}
 use Rattle.object_store.specs.Slots.{objects_in}

@@ -9,6 +9,7 @@ pub mod Goes
 pub mod Going
 pub mod Holders
 pub mod ItemsRead
+pub mod Keyed
 pub mod Leads
 pub mod Leaving
 pub mod Lists

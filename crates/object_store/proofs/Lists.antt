@@ -1,5 +1,5 @@
 -- What an item that comes into a list of pairs makes of it.
-use Rattle.std.proofs.Common.{◌≡◌, ℕ, ◌≢◌, Bool, true, false, cond, List, [], ◌∷◌, ◌++◌, map, Option, Some, None, refl, sym, ap, subst, ◌∙◌, ◌⊎◌, inl, inr}
+use Rattle.std.proofs.Common.{◌≡◌, ℕ, ◌≢◌, Bool, true, false, cond, List, [], ◌∷◌, ◌++◌, map, Some, None, refl, sym, ap, subst, ◌∙◌, ◌⊎◌, inl, inr}
 use Rattle.std.specs.Prelude.{◌==◌}
 use Rattle.std.proofs.lemmas.Bool.Decides.{eqb_tells}
 use Rattle.item_ring.specs.RingLists.{IsIn, IsDistinct}
@@ -7,7 +7,7 @@ use Rattle.item_list.specs.Items.{serials, value_at, pairs_before, pairs_behind}
 use Rattle.object_store.specs.declared.entrance.Entrance.{Entrance}
 use Rattle.object_store.specs.declared.entrance.Entrance.TheVariants.{Front, Rear, Before, Behind}
 use Rattle.object_store.specs.Entrance.{entered, IsThere}
-use Rattle.object_store.proofs.Pairs.{Agrees, before_of, behind_of, keeps, in_list, number_itself, number_of, number_not, same_number}
+use Rattle.object_store.proofs.Pairs.{before_of, behind_of, keeps, same_number}
 
 some_none : {A : Type 0} (a : A) → Some a ≡ None → ⊥
 some_none a e = cc

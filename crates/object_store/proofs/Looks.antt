@@ -1,25 +1,25 @@
 -- What is asked of objects by name and by item, as the places have it.
-use Rattle.std.proofs.Common.{◌≡◌, ℕ, ◌+◌, ◌≢◌, Bool, true, false, cond, List, [], Option, Some, None, is_some, refl, sym, ap, ◌∙◌}
-use Rattle.std.specs.Prelude.{slice_get, option_map, option_and_then, ◌==◌}
+use Rattle.std.proofs.Common.{◌≡◌, ℕ, ◌≢◌, Bool, true, false, cond, List, [], Option, Some, None, is_some, refl, ap, ◌∙◌}
+use Rattle.std.specs.Prelude.{slice_get, option_map, option_and_then}
 use Rattle.std.specs.FinMap as finmap
 use Rattle.item_pool.specs.Contents.{Contents}
 use Rattle.item_list.specs.Items.{value_at}
 use Rattle.reply_text.specs.declared.refusal.Refusal.TheVariants.{FullObjects}
 use Rattle.reply_text.specs.declared.reply.ReplyLine.TheVariants.{Empty}
-use Rattle.reply_text.specs.Outcome.{Outcome, done, refused}
+use Rattle.reply_text.specs.Outcome.{done, refused}
 use Rattle.script_text.specs.declared.form.Kinds.{Kinds}
 use Rattle.object_store.specs.declared.objects.Place.{Place}
 use Rattle.object_store.specs.declared.objects.TheConstants.{OBJECT_LIMIT}
 use Rattle.object_store.specs.declared.kind.ObjectKind.{ObjectKind}
 use Rattle.object_store.specs.declared.slots.Named.{Named}
 use Rattle.object_store.specs.State.{Cell, Object, ObjectState}
-use Rattle.object_store.specs.Views.{is_of, of_kinds, has_object, object_of, object_at, holder, holder_of, holds_cell}
+use Rattle.object_store.specs.Views.{is_of, of_kinds, has_object, object_of, holder_of, holds_cell}
 use Rattle.object_store.specs.Commands.{make, with_object}
-use Rattle.object_store.specs.Inner.{inner, kind_of, cells_in, seen}
+use Rattle.object_store.specs.Inner.{inner, kind_of, seen}
 use Rattle.object_store.specs.Slots.{found}
-use Rattle.object_store.specs.Kept.{Places, state_of, IsAt, IsKept}
+use Rattle.object_store.specs.Kept.{Places, state_of, IsKept}
 use Rattle.object_store.proofs.Found.{get_objects}
-use Rattle.object_store.proofs.Holders.{object_there, holder_there, nobody_holds, value_there}
+use Rattle.object_store.proofs.Holders.{object_there, holder_there, nobody_holds}
 use Rattle.object_store.proofs.Pairs.{number_of, number_not}
 
 some_if : {A : Type 0} (b : Bool) (x : A) → is_some (cond b (Some x) None) ≡ b

@@ -1,6 +1,6 @@
 -- A new object comes into a place.
-use Rattle.std.proofs.Common.{◌≡◌, ℕ, ◌+◌, ◌<◌, ◌≤◌, ◌≢◌, true, false, is_some, map, List, [], ◌∷◌, ◌++◌, length, Option, Some, None, refl, sym, ap, subst, ◌∙◌, ◌⊎◌, inl, inr, arith}
-use Rattle.std.specs.Prelude.{slice_get, slice_set, option_and_then}
+use Rattle.std.proofs.Common.{◌≡◌, ℕ, ◌≢◌, true, false, is_some, map, List, [], ◌∷◌, Some, None, refl, sym, ap, subst, ◌∙◌, ◌⊎◌, inl, inr, arith}
+use Rattle.std.specs.Prelude.{slice_get, option_and_then}
 use Rattle.std.specs.Ordering.{nat_cmp}
 use Rattle.std.specs.FinMap as finmap
 use Rattle.item_pool.specs.Contents.{Contents, contents}
@@ -8,7 +8,7 @@ use Rattle.item_list.specs.Items.{value_at, serials}
 use Rattle.item_ring.specs.RingLists.{IsDistinct}
 use Rattle.object_store.specs.declared.objects.Place.{Place}
 use Rattle.object_store.specs.declared.slots.Named.{Named}
-use Rattle.object_store.specs.State.{Cell, ObjectState, no_objects}
+use Rattle.object_store.specs.State.{Cell, ObjectState}
 use Rattle.object_store.specs.Inner.{Inner, inner, made_in, kind_of, cell_in, seen}
 use Rattle.reply_text.specs.declared.reply.Reply.{Reply}
 use Rattle.reply_text.specs.declared.reply.Reply.TheVariants.{Line}
@@ -21,8 +21,8 @@ use Rattle.object_store.specs.Commands.{make, with_object}
 use Rattle.object_store.specs.Slots.{objects_in, found, taken, AreApart}
 use Rattle.object_store.specs.Views.{of_kinds, has_object}
 use Rattle.script_text.specs.declared.form.Kinds.TheVariants.{Any}
-use Rattle.object_store.specs.Kept.{Places, state_of, IsAt, IsSaid, IsSound, IsKept, Puts}
-use Rattle.object_store.proofs.Places.{at_within, at_else, at_set, from_set, at_more, from_more}
+use Rattle.object_store.specs.Kept.{Places, state_of, IsSound, IsKept, Puts}
+use Rattle.object_store.proofs.Places.{at_within, at_else, from_set, at_more, from_more}
 use Rattle.object_store.proofs.Found.{alone_free, apart_set, apart_push, objects_with, objects_push, len_objects, get_objects}
 
 some_none : {A : Type 0} (a : A) → Some a ≡ None → ⊥

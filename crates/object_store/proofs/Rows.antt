@@ -1,6 +1,6 @@
 -- What lists do with their serials, said with the numbers of the items.
-use Rattle.std.proofs.Common.{◌≡◌, ℕ, Bool, true, false, List, [], ◌∷◌, ◌++◌, map, Option, Some, None, refl, sym, ap, ◌∙◌}
-use Rattle.std.specs.Prelude.{ℤ, option_map}
+use Rattle.std.proofs.Common.{◌≡◌, ℕ, true, false, List, [], ◌∷◌, map, Option, Some, None, refl, sym, ◌∙◌}
+use Rattle.std.specs.Prelude.{option_map}
 use Rattle.item_pool.specs.declared.pool.Item.{Item}
 use Rattle.item_list.specs.Items.{value_at}
 use Rattle.script_text.specs.declared.form.Kinds.TheVariants as kinds

@@ -1,5 +1,5 @@
 -- Where an item stands among others, said with serials and with numbers.
-use Rattle.std.proofs.Common.{◌≡◌, ℕ, ◌≢◌, Bool, true, false, cond, List, [], ◌∷◌, ◌++◌, map, Option, Some, None, refl, sym, ap, subst, ◌∙◌, inl, inr}
+use Rattle.std.proofs.Common.{◌≡◌, ℕ, false, List, [], ◌∷◌, ◌++◌, map, Option, Some, None, refl, sym, ap, subst, ◌∙◌, inl, inr}
 use Rattle.std.specs.Prelude.{◌==◌, ⊤, option_map, option_and_then}
 use Rattle.std.proofs.lemmas.Bool.Decides.{eqb_tells}
 use Rattle.item_pool.specs.declared.pool.Item.{Item}
@@ -9,12 +9,13 @@ use Rattle.item_list.proofs.Turned.{serials_join}
 use Rattle.object_store.specs.declared.near.Near.{Near}
 use Rattle.object_store.specs.declared.near.Near.TheVariants.{First, Last, Behind, Before, RoundBehind, RoundBefore}
 use Rattle.object_store.specs.declared.object.Entry.{Entry}
+use Rattle.object_store.specs.declared.object.Object.{Object as Held}
 use Rattle.object_store.specs.declared.object.Object.TheVariants as held
 use Rattle.object_store.specs.State.{Cell}
 use Rattle.object_store.specs.Cells.{first_of, last_of, before, behind}
 use Rattle.object_store.specs.Inner.{Inner, inner, list_cell, cell_in}
 use Rattle.object_store.specs.Near.{number_at, IsItem, IsNumber}
-use Rattle.object_store.proofs.Lists.{cond_true, cond_false, map_more}
+use Rattle.object_store.proofs.Lists.{cond_true, cond_false}
 use Rattle.object_store.proofs.Pairs.{Agrees, value_first, value_later, number_itself}
 
 none_some : {A : Type 0} (a : A) → None ≡ Some a → ⊥
@@ -91,42 +92,66 @@ module _ (s i : ℕ) (c : Cell) (rs : List Inner) where
       cond_false (b.1.0 == i) [] (b.1 ∷ before i (map cell_in (bs ++ (s, c) ∷ rs))) (h.0 ∙ none.0)
       ∙ ap (λ ys. b.1 ∷ ys) (before_cut bs none.1 h.1)
 
+-- ---- the item there, by its serial
+-- the item is the one that stands there among others
+abbrev pub IsSerial : Near → List Inner → Option Item → Type 0
+IsSerial First xs r = serial_of r ≡ front (serials xs)
+IsSerial Last xs r = serial_of r ≡ back (serials xs)
+IsSerial (Behind it) xs r =
+    (bs rs : List Inner) (c : Cell) → xs ≡ bs ++ (it.serial, c) ∷ rs → serial_of r ≡ front (serials rs)
+IsSerial (Before it) xs r =
+    (bs rs : List Inner) (c : Cell) → xs ≡ bs ++ (it.serial, c) ∷ rs → serial_of r ≡ back (serials bs)
+IsSerial (RoundBehind it) xs r =
+    (bs rs : List Inner) (c : Cell) → xs ≡ bs ++ (it.serial, c) ∷ rs
+    → serial_of r ≡ front (serials (rs ++ bs ++ (it.serial, c) ∷ []))
+IsSerial (RoundBefore it) xs r =
+    (bs rs : List Inner) (c : Cell) → xs ≡ bs ++ (it.serial, c) ∷ rs
+    → serial_of r ≡ back (serials ((it.serial, c) ∷ rs ++ bs))
+
+module _ (o : Held) (r : Option Item) (n : Option ℕ) (apart : IsDistinct (serials (inner o))) (is : n ≡ option_and_then (number_at (inner o)) (serial_of r)) where
+  abbrev xs : List Inner
+  xs = inner o
+
+  parts : (bs rs : List Inner) (s : ℕ) (c : Cell) → xs ≡ bs ++ (s, c) ∷ rs → AllIn xs bs × (AllIn xs ((s, c) ∷ rs))
+  parts bs rs s c e =
+      let all : AllIn xs (bs ++ (s, c) ∷ rs) = subst (AllIn xs) e (all_in xs apart) in
+      (all_left xs bs ((s, c) ∷ rs) all, all_right xs bs ((s, c) ∷ rs) all)
+
+  of_first : (ys : List Inner) → AllIn xs ys → serial_of r ≡ front (serials ys) → n ≡ first_of (map cell_in ys)
+  of_first ys all h = is ∙ ap (option_and_then (number_at xs)) h ∙ first_number xs ys all
+
+  of_last : (ys : List Inner) → AllIn xs ys → serial_of r ≡ back (serials ys) → n ≡ last_of (map cell_in ys)
+  of_last ys all h = is ∙ ap (option_and_then (number_at xs)) h ∙ last_number xs ys all
+
+  pub number_there : (near : Near) → IsSerial near xs r → IsNumber near o n
+  number_there First h = of_first xs (all_in xs apart) h
+  number_there Last h = of_last xs (all_in xs apart) h
+  number_there (Behind it) h = λ bs rs c e. of_first rs (parts bs rs it.serial c e).1.1 (h bs rs c e)
+  number_there (Before it) h = λ bs rs c e. of_last bs (parts bs rs it.serial c e).0 (h bs rs c e)
+  number_there (RoundBehind it) h = λ bs rs c e.
+      let w = parts bs rs it.serial c e in
+      of_first (rs ++ bs ++ (it.serial, c) ∷ [])
+      (all_join xs (rs ++ bs) ((it.serial, c) ∷ []) (all_join xs rs bs w.1.1 w.0) (w.1.0, tt)) (h bs rs c e)
+  number_there (RoundBefore it) h = λ bs rs c e.
+      let w = parts bs rs it.serial c e in
+      of_last ((it.serial, c) ∷ rs ++ bs) (w.1.0, all_join xs rs bs w.1.1 w.0) (h bs rs c e)
+
 -- ---- lists
 serials_map : (ps : List (ℕ × Entry)) → serials (map list_cell ps) ≡ serials ps
 serials_map [] = refl
 serials_map (p ∷ ps) = ap (λ r. p.0 ∷ r) (serials_map ps)
 
-module _ (l : Items Entry) (r : Option Item) (n : Option ℕ) (apart : IsDistinct (serials (inner (held.List l)))) (is : n ≡ option_and_then (number_at (inner (held.List l))) (serial_of r)) where
-  abbrev xs : List Inner
-  xs = inner (held.List l)
-
-  whole : AllIn xs xs
-  whole = all_in xs apart
-
-  between : (bs rs : List Inner) (s : ℕ) (c : Cell) → xs ≡ bs ++ (s, c) ∷ rs → serials l.pairs ≡ serials bs ++ s ∷ serials rs
+module _ (l : Items Entry) (r : Option Item) where
+  between : (bs rs : List Inner) (s : ℕ) (c : Cell) → inner (held.List l) ≡ bs ++ (s, c) ∷ rs → serials l.pairs ≡ serials bs ++ s ∷ serials rs
   between bs rs s c e = sym (serials_map l.pairs) ∙ ap serials e ∙ serials_join bs ((s, c) ∷ rs)
 
-  parts : (bs rs : List Inner) (s : ℕ) (c : Cell) → xs ≡ bs ++ (s, c) ∷ rs → AllIn xs bs × (AllIn xs ((s, c) ∷ rs))
-  parts bs rs s c e =
-      let all : AllIn xs (bs ++ (s, c) ∷ rs) = subst (AllIn xs) e whole in
-      (all_left xs bs ((s, c) ∷ rs) all, all_right xs bs ((s, c) ∷ rs) all)
-
-  pub number_there : (near : Near) → IsItem near l r → IsNumber near (held.List l) n
-  number_there First h = is ∙ ap (option_and_then (number_at xs)) (h ∙ ap front (sym (serials_map l.pairs))) ∙ first_number xs xs whole
-  number_there Last h = is ∙ ap (option_and_then (number_at xs)) (h ∙ ap back (sym (serials_map l.pairs))) ∙ last_number xs xs whole
-  number_there (Behind it) h = λ bs rs c e.
-      is ∙ ap (option_and_then (number_at xs)) (h (serials bs) (serials rs) (between bs rs it.serial c e))
-      ∙ first_number xs rs (parts bs rs it.serial c e).1.1
-  number_there (Before it) h = λ bs rs c e.
-      is ∙ ap (option_and_then (number_at xs)) (h (serials bs) (serials rs) (between bs rs it.serial c e))
-      ∙ last_number xs bs (parts bs rs it.serial c e).0
-  number_there (RoundBehind it) h = λ bs rs c e.
-      let ys : List Inner = rs ++ bs ++ (it.serial, c) ∷ [] in
-      let w = parts bs rs it.serial c e in
-      is ∙ ap (option_and_then (number_at xs)) (h (serials bs) (serials rs) (between bs rs it.serial c e) ∙ ap front (sym (serials_join (rs ++ bs) ((it.serial, c) ∷ []) ∙ ap (λ zs. zs ++ it.serial ∷ []) (serials_join rs bs))))
-      ∙ first_number xs ys (all_join xs (rs ++ bs) ((it.serial, c) ∷ []) (all_join xs rs bs w.1.1 w.0) (w.1.0, tt))
-  number_there (RoundBefore it) h = λ bs rs c e.
-      let ys : List Inner = (it.serial, c) ∷ rs ++ bs in
-      let w = parts bs rs it.serial c e in
-      is ∙ ap (option_and_then (number_at xs)) (h (serials bs) (serials rs) (between bs rs it.serial c e) ∙ ap (λ zs. back (it.serial ∷ zs)) (sym (serials_join rs bs)))
-      ∙ last_number xs ys (w.1.0, all_join xs rs bs w.1.1 w.0)
+  pub list_serial : (near : Near) → IsItem near l r → IsSerial near (inner (held.List l)) r
+  list_serial First h = h ∙ ap front (sym (serials_map l.pairs))
+  list_serial Last h = h ∙ ap back (sym (serials_map l.pairs))
+  list_serial (Behind it) h = λ bs rs c e. h (serials bs) (serials rs) (between bs rs it.serial c e)
+  list_serial (Before it) h = λ bs rs c e. h (serials bs) (serials rs) (between bs rs it.serial c e)
+  list_serial (RoundBehind it) h = λ bs rs c e.
+      h (serials bs) (serials rs) (between bs rs it.serial c e)
+      ∙ ap front (sym (serials_join (rs ++ bs) ((it.serial, c) ∷ []) ∙ ap (λ zs. zs ++ it.serial ∷ []) (serials_join rs bs)))
+  list_serial (RoundBefore it) h = λ bs rs c e.
+      h (serials bs) (serials rs) (between bs rs it.serial c e) ∙ ap (λ zs. back (it.serial ∷ zs)) (sym (serials_join rs bs))

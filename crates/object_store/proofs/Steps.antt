@@ -1,11 +1,10 @@
 -- What a change of the object at one place leaves of the objects and of the pool.
-use Rattle.std.proofs.Common.{◌≡◌, ℕ, ◌+◌, ◌<◌, ◌≤◌, ◌≢◌, Bool, true, false, cond, List, [], ◌∷◌, ◌++◌, map, length, Option, Some, None, refl, sym, ap, subst, ◌∙◌, ◌⊎◌, inl, inr, ⊎_elim, arith}
+use Rattle.std.proofs.Common.{◌≡◌, ℕ, ◌+◌, ◌<◌, ◌≤◌, ◌≢◌, cond, List, map, length, Some, None, refl, sym, ap, subst, ◌∙◌, ◌⊎◌, inl, inr, ⊎_elim, arith}
 use Rattle.std.specs.Prelude.{◌==◌, slice_get, slice_set}
 use Rattle.std.proofs.lemmas.Bool.{cases_eq}
-use Rattle.std.specs.Ordering.{nat_cmp}
 use Rattle.std.specs.Cmp.{nat_cmp_total}
 use Rattle.std.specs.FinMap as finmap
-use Rattle.item_pool.specs.Contents.{Contents, Inserts, IsWithin, IsAsBefore}
+use Rattle.item_pool.specs.Contents.{Contents, Inserts, IsWithin}
 use Rattle.item_pool.specs.declared.pool.Item.{Item}
 use Rattle.item_dict.proofs.Maps.{get_here, get_there, inserted}
 use Rattle.item_ring.specs.RingLists.{IsDistinct}
@@ -14,11 +13,11 @@ use Rattle.object_store.specs.declared.entrance.Entrance.{Entrance}
 use Rattle.object_store.specs.declared.object.Object.{Object as Held}
 use Rattle.object_store.specs.declared.objects.Place.{Place}
 use Rattle.object_store.specs.declared.slots.Named.{Named}
-use Rattle.object_store.specs.State.{Cell, Object, ObjectState}
-use Rattle.object_store.specs.Commands.{with_object, with_cells}
-use Rattle.object_store.specs.Inner.{Inner, inner, made_in, kind_of, cell_in, cells_in, seen}
-use Rattle.object_store.specs.Slots.{objects_in, found, AreApart}
-use Rattle.object_store.specs.Kept.{Places, state_of, IsAt, IsSaid, IsSound, IsKept, HasAt, Replaces}
+use Rattle.object_store.specs.State.{Cell}
+use Rattle.object_store.specs.Commands.{with_cells}
+use Rattle.object_store.specs.Inner.{Inner, inner, made_in, cell_in, seen}
+use Rattle.object_store.specs.Slots.{objects_in, AreApart}
+use Rattle.object_store.specs.Kept.{Places, state_of, IsSaid, IsSound, IsKept, Replaces}
 use Rattle.object_store.specs.Entrance.{entered, IsThere, Enters, IsLike}
 use Rattle.object_store.proofs.Names.{total, tells}
 use Rattle.object_store.proofs.Places.{at_within, at_else, at_set, from_set}

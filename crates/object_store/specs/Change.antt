@@ -1,5 +1,5 @@
 -- Private: how a container changes that keeps its items, by the serials that it gave them.
-use Rattle.std.specs.Prelude.{◌≡◌, ℕ, ℤ, ◌≤ℤ◌, List, [], ◌∷◌, Some, reverse}
+use Rattle.std.specs.Prelude.{◌≡◌, ◌≤ℤ◌, List, [], ◌∷◌, Some, reverse}
 use Rattle.item_list.specs.Items.{value_at, pairs_with, pairs_without}
 use Rattle.object_store.specs.declared.change.Change.{Change}
 use Rattle.object_store.specs.declared.change.Change.TheVariants.{Write, Move, Turn, Lower}

@@ -1,5 +1,5 @@
 -- What each command on objects does to them, and what it is answered.
-use Rattle.std.specs.Prelude.{ℕ, ℤ, pos, ◌+◌, ◌==◌, List, [], ◌∷◌, ◌++◌, map, length, reverse, Option, Some, None, option_map, option_and_then, if◌then◌else◌, int_lt}
+use Rattle.std.specs.Prelude.{ℕ, ℤ, pos, ◌+◌, ◌==◌, List, [], ◌∷◌, ◌++◌, length, reverse, Option, Some, None, option_map, option_and_then, if◌then◌else◌, int_lt}
 use Rattle.std.specs.FinMap as map
 use Rattle.item_pool.specs.declared.pool.TheConstants.{MOST_SERIALS}
 use Rattle.item_list.specs.Items.{value_at, pairs_without, pairs_before, pairs_behind, pairs_with}
@@ -9,7 +9,7 @@ use Rattle.script_text.specs.declared.argument.Arg.TheVariants as args
 use Rattle.script_text.specs.declared.form.Kinds.{Kinds}
 use Rattle.script_text.specs.declared.form.Kinds.TheVariants as kinds
 use Rattle.reply_text.specs.declared.reply.ReplyLine.{ReplyLine}
-use Rattle.reply_text.specs.declared.reply.ReplyLine.TheVariants.{Empty, Nil, Num, Name, Cells}
+use Rattle.reply_text.specs.declared.reply.ReplyLine.TheVariants.{Empty, Nil, Num, Name}
 use Rattle.reply_text.specs.declared.refusal.Refusal.{Refusal}
 use Rattle.reply_text.specs.declared.refusal.Refusal.TheVariants.{FullItems, FullObjects, Spent, Larger}
 use Rattle.reply_text.specs.Outcome.{Outcome, done, refused, unless}
@@ -20,7 +20,7 @@ use Rattle.script_text.specs.declared.word.ObjectWord.{ObjectWord}
 use Rattle.script_text.specs.declared.word.ObjectWord.TheVariants as words
 use Rattle.object_store.specs.State.{Cell, Object, ObjectState}
 use Rattle.object_store.specs.Views.{object_of, holder_of, live_cells}
-use Rattle.object_store.specs.Cells.{head_of, inf_of, before, behind, first_of, last_of, with_key, placed, listed, shown}
+use Rattle.object_store.specs.Cells.{head_of, inf_of, before, behind, first_of, last_of, placed}
 
 -- the objects with this one under the name, and without that of the name
 abbrev pub with_object : List ℕ → Object → ObjectState → ObjectState
@@ -121,6 +121,14 @@ objects_done words.Contents (args.Cell i ∷ []) s =
 objects_done words.Assign (args.Cell i ∷ args.Num v ∷ []) s =
     on_cell s kinds.List i (λ x o old.
     done (with_cells x o (pairs_with i (v ∷ []) o.cells) s) Empty)
+objects_done words.First (args.Name x ∷ []) s =
+    on_object s kinds.ListOrDict x (λ o. done s (number_line (first_of o.cells)))
+objects_done words.Last (args.Name x ∷ []) s =
+    on_object s kinds.ListOrDict x (λ o. done s (number_line (last_of o.cells)))
+objects_done words.Succ (args.Cell i ∷ []) s =
+    on_cell s kinds.ListOrDict i (λ x o v. done s (number_line (first_of (behind i o.cells))))
+objects_done words.Pred (args.Cell i ∷ []) s =
+    on_cell s kinds.ListOrDict i (λ x o v. done s (number_line (last_of (before i o.cells))))
 objects_done words.CyclicSucc (args.Cell i ∷ []) s =
     on_cell s kinds.List i (λ x o v.
     done s (number_line (first_of (behind i o.cells ++ before i o.cells ++ (i, v) ∷ []))))

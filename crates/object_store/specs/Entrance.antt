@@ -1,6 +1,6 @@
 -- Private: how items come into containers and go, by the serials that these give.
 use Rattle.std.specs.Prelude.{◌≡◌, ℕ, ℤ, ◌+◌, List, [], ◌∷◌, ◌++◌, Some, ⊤}
-use Rattle.item_list.specs.Items.{HasItem, value_at, pairs_without, pairs_before, pairs_behind}
+use Rattle.item_list.specs.Items.{value_at, pairs_without, pairs_before, pairs_behind}
 use Rattle.object_store.specs.declared.entrance.Entrance.{Entrance}
 use Rattle.object_store.specs.declared.entrance.Entrance.TheVariants.{Front, Rear, Before, Behind}
 use Rattle.item_pool.specs.declared.pool.Item.{Item}
@@ -11,7 +11,7 @@ use Rattle.object_store.specs.declared.entrance.Side.TheVariants as sides
 use Rattle.object_store.specs.declared.object.Object.{Object as Held}
 use Rattle.object_store.specs.declared.object.Object.TheVariants as held
 use Rattle.object_store.specs.State.{Cell}
-use Rattle.object_store.specs.Inner.{Inner, inner, kind_of, made_in}
+use Rattle.object_store.specs.Inner.{inner, kind_of, made_in}
 
 -- the list with a pair that came in
 abbrev pub entered : {X : Type 0} → Entrance → ℕ × X → List (ℕ × X) → List (ℕ × X)

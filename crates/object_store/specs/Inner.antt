@@ -1,9 +1,6 @@
 -- Private: how the containers stand for objects.
-use Rattle.std.specs.Prelude.{◌≡◌, ℕ, ℤ, Bool, ◌+◌, ◌≤◌, ◌<◌, ◌==◌, List, [], ◌∷◌, map, length, Option, Some, None, if◌then◌else◌}
+use Rattle.std.specs.Prelude.{ℕ, ℤ, List, [], ◌∷◌, map}
 use Rattle.std.specs.FinMap as finmap
-use Rattle.item_list.specs.Items.{Items}
-use Rattle.item_dict.specs.Contents.{Contents}
-use Rattle.item_queue.specs.Contents.{Queued}
 use Rattle.object_store.specs.declared.kind.ObjectKind.{ObjectKind}
 use Rattle.object_store.specs.declared.kind.ObjectKind.TheVariants as kinds
 use Rattle.object_store.specs.declared.object.Entry.{Entry}

@@ -1,22 +1,44 @@
 -- Private: which item is asked for by where it stands, by the serials that its container gave.
-use Rattle.std.specs.Prelude.{◌≡◌, ℕ, List, [], ◌∷◌, ◌++◌, map, Option, Some, ⊤, option_map}
+use Rattle.std.specs.Prelude.{◌≡◌, ℕ, ℤ, true, List, [], ◌∷◌, ◌++◌, map, Option, Some, ⊤, option_map, MatchOption}
+use Rattle.std.specs.FinMap as finmap
 use Rattle.item_pool.specs.declared.pool.Item.{Item}
 use Rattle.item_ring.specs.RingLists.{IsDistinct, front, back}
 use Rattle.item_list.specs.Items.{Items, serials, serial_of, value_at, HasBetween}
+use Rattle.item_dict.specs.Contents.{Contents as DictOf, HasKey}
+use Rattle.item_dict.specs.Order.{IsLeast, IsGreatest, IsNextAfter, IsNextBefore, IsLastUpTo, IsFirstFrom}
+use Rattle.script_text.specs.declared.form.Kinds.{Kinds}
+use Rattle.script_text.specs.declared.form.Kinds.TheVariants as kinds
 use Rattle.object_store.specs.declared.near.Near.{Near}
 use Rattle.object_store.specs.declared.near.Near.TheVariants.{First, Last, Behind, Before, RoundBehind, RoundBefore}
 use Rattle.object_store.specs.declared.near.Neighbour.{Neighbour}
-use Rattle.object_store.specs.declared.near.Neighbour.TheVariants.{CyclicSucc, CyclicPred}
-use Rattle.object_store.specs.declared.kind.ObjectKind.TheVariants as sorts
+use Rattle.object_store.specs.declared.near.Neighbour.TheVariants.{Succ, Pred, CyclicSucc, CyclicPred}
+use Rattle.object_store.specs.declared.near.Sought.{Sought}
+use Rattle.object_store.specs.declared.near.Sought.TheVariants as sought
 use Rattle.object_store.specs.declared.object.Entry.{Entry}
 use Rattle.object_store.specs.declared.object.Object.{Object as Held}
 use Rattle.object_store.specs.State.{Cell}
 use Rattle.object_store.specs.Cells.{first_of, last_of}
+use Rattle.object_store.specs.Views.{is_of}
 use Rattle.object_store.specs.Inner.{Inner, inner, kind_of, cell_in, cells_in}
 
+abbrev pub near_sought : Sought → Near
+near_sought sought.First = First
+near_sought sought.Last = Last
+
 abbrev pub near_of : Neighbour → Item → Near
+near_of Succ it = Behind it
+near_of Pred it = Before it
 near_of CyclicSucc it = RoundBehind it
 near_of CyclicPred it = RoundBefore it
+
+-- the objects that have such a place: round its ends a list alone goes on
+abbrev pub near_kinds : Near → Kinds
+near_kinds First = kinds.ListOrDict
+near_kinds Last = kinds.ListOrDict
+near_kinds (Behind it) = kinds.ListOrDict
+near_kinds (Before it) = kinds.ListOrDict
+near_kinds (RoundBehind it) = kinds.List
+near_kinds (RoundBefore it) = kinds.List
 
 -- the item is there
 abbrev pub HasThere : Item → List Inner → Type 0
@@ -34,7 +56,7 @@ IsPlaced (RoundBefore it) xs = HasThere it xs
 pub record CanFind (near : Near) (o : Held) : Type 0 where
   pub placed : IsPlaced near (inner o)
   pub distinct : IsDistinct (serials (inner o))
-  pub kind : kind_of o ≡ sorts.List
+  pub kind : is_of (near_kinds near) (kind_of o) ≡ true
 
 -- the list has that item there
 abbrev pub IsItem : Near → Items Entry → Option Item → Type 0
@@ -49,6 +71,21 @@ IsItem (RoundBehind it) l r =
     → serial_of r ≡ front (rs ++ bs ++ it.serial ∷ [])
 IsItem (RoundBefore it) l r =
     (bs rs : List ℕ) → HasBetween l it.serial bs rs → serial_of r ≡ back (it.serial ∷ rs ++ bs)
+
+-- the dictionary has that item there, in the order of the keys
+abbrev pub IsKeyed : Near → DictOf Entry → Option Item → Type 0
+IsKeyed First d r =
+    MatchOption r (d.triples ≡ finmap.empty) (λ n. (k : ℤ) × IsLeast (HasKey d) n.serial k)
+IsKeyed Last d r =
+    MatchOption r (d.triples ≡ finmap.empty) (λ n. (k : ℤ) × IsGreatest (HasKey d) n.serial k)
+IsKeyed (Behind it) d r =
+    (k : ℤ) × HasKey d it.serial k
+    × MatchOption r (IsLastUpTo (HasKey d) k) (λ n. (j : ℤ) × IsNextAfter (HasKey d) k n.serial j)
+IsKeyed (Before it) d r =
+    (k : ℤ) × HasKey d it.serial k
+    × MatchOption r (IsFirstFrom (HasKey d) k) (λ n.
+    (j : ℤ) × IsNextBefore (HasKey d) k n.serial j)
+IsKeyed near d r = ⊥
 
 -- the number of the item of a serial
 abbrev pub number_at : List Inner → ℕ → Option ℕ

@@ -1,12 +1,14 @@
 -- The words of commands that are one call with a parameter, and the kinds of objects that they
 -- take.
-use Rattle.std.specs.Prelude.{ℕ, ℤ, List}
+use Rattle.std.specs.Prelude.{ℤ, List}
 use Rattle.script_text.specs.declared.form.Kinds.{Kinds}
 use Rattle.script_text.specs.declared.form.Kinds.TheVariants as kinds
 use Rattle.object_store.specs.declared.entrance.End.{End}
 use Rattle.object_store.specs.declared.entrance.End.TheVariants as ends
 use Rattle.object_store.specs.declared.near.Neighbour.{Neighbour}
-use Rattle.object_store.specs.declared.near.Neighbour.TheVariants.{CyclicSucc, CyclicPred}
+use Rattle.object_store.specs.declared.near.Neighbour.TheVariants.{Succ, Pred, CyclicSucc, CyclicPred}
+use Rattle.object_store.specs.declared.near.Sought.{Sought}
+use Rattle.object_store.specs.declared.near.Sought.TheVariants.{First, Last}
 use Rattle.object_store.specs.declared.part.Reading.{Reading}
 use Rattle.object_store.specs.declared.part.Reading.TheVariants as readings
 use Rattle.object_store.specs.declared.part.Writing.{Writing}
@@ -46,6 +48,24 @@ abbrev pub moving_word : End → ObjectWord
 moving_word ends.Front = words.MoveToFront
 moving_word ends.Rear = words.MoveToRear
 
+abbrev pub sought_word : Sought → ObjectWord
+sought_word First = words.First
+sought_word Last = words.Last
+
+-- the objects that are sought in
+abbrev pub sought_kinds : Sought → Kinds
+sought_kinds First = kinds.ListOrDict
+sought_kinds Last = kinds.ListOrDict
+
 abbrev pub neighbour_word : Neighbour → ObjectWord
+neighbour_word Succ = words.Succ
+neighbour_word Pred = words.Pred
 neighbour_word CyclicSucc = words.CyclicSucc
 neighbour_word CyclicPred = words.CyclicPred
+
+-- the objects whose items have such a neighbour
+abbrev pub neighbour_kinds : Neighbour → Kinds
+neighbour_kinds Succ = kinds.ListOrDict
+neighbour_kinds Pred = kinds.ListOrDict
+neighbour_kinds CyclicSucc = kinds.List
+neighbour_kinds CyclicPred = kinds.List

@@ -11,7 +11,7 @@ ghost use Rattle.object_store.specs.Met.{AreMet};
 
 use crate::entrance::End;
 use crate::kind::ObjectKind;
-use crate::near::Neighbour;
+use crate::near::{Neighbour, Sought};
 use crate::objects::Objects;
 use crate::part::{Reading, Writing};
 use reply_text::Reply;
@@ -58,6 +58,8 @@ impl Objects {
             ObjectWord::MakeQueue => self.make(ObjectKind::Queue, name),
             ObjectWord::DropObject => self.drop_object(name),
             ObjectWord::Size => self.size(name),
+            ObjectWord::First => self.find(Sought::First, name),
+            ObjectWord::Last => self.find(Sought::Last, name),
             ObjectWord::ReverseItems => self.reverse_items(name),
             _ => unreachable!(),
         }
@@ -103,6 +105,8 @@ impl Objects {
             ObjectWord::Key => self.read(Reading::Key, number),
             ObjectWord::Prio => self.read(Reading::Priority, number),
             ObjectWord::Inf => self.read(Reading::Information, number),
+            ObjectWord::Succ => self.neighbour(Neighbour::Succ, number),
+            ObjectWord::Pred => self.neighbour(Neighbour::Pred, number),
             ObjectWord::CyclicSucc => self.neighbour(Neighbour::CyclicSucc, number),
             ObjectWord::CyclicPred => self.neighbour(Neighbour::CyclicPred, number),
             ObjectWord::MoveToFront => self.move_to(End::Front, number),

@@ -37,7 +37,7 @@ mod slots;
 
 pub use entrance::{End, Side};
 pub use kind::ObjectKind;
-pub use near::Neighbour;
+pub use near::{Neighbour, Sought};
 pub use objects::{CELL_LIMIT, OBJECT_LIMIT, Objects};
 pub use part::{Reading, Writing};
 pub use script_text::ObjectWord;

@@ -13,7 +13,7 @@ ghost use Rattle.object_store.specs.Inner.{kind_of};
 ghost use Rattle.object_store.specs.Leads.{Leads};
 ghost use Rattle.object_store.specs.Commands.{number_line, objects_done, make as makes};
 ghost use Rattle.object_store.specs.Views.{has_object as has, holds_cell as holds, is_live};
-ghost use Rattle.object_store.specs.Words.{reading_word, reading_kinds, neighbour_word, writing_word, writing_kinds, moving_word};
+ghost use Rattle.object_store.specs.Words.{reading_word, reading_kinds, sought_word, sought_kinds, neighbour_word, neighbour_kinds, writing_word, writing_kinds, moving_word};
 
 use crate::change::Change;
 use crate::drop::drop_object;
@@ -21,7 +21,7 @@ use crate::edits::{delete, put_at_end, put_beside};
 use crate::entrance::{End, Side};
 use crate::kind::ObjectKind;
 use crate::look::{len_at, read_at};
-use crate::near::{Neighbour, number_at_place};
+use crate::near::{Neighbour, Sought, number_at_place};
 use crate::object::{Entry, Object};
 use crate::part::{Reading, Writing};
 use crate::parts::{change, place_of};
@@ -229,9 +229,26 @@ impl Objects {
         Reply::Line(ReplyLine::Num(value))
     }
 
-    /// `cyclic_succ i` and `cyclic_pred i`: a neighbour of an item of a list.
+    /// `first X` and `last X`: the item at an end of a list, or of the least or the greatest key of
+    /// a dictionary.
+    pub fn find(&self, what: Sought, name: &[u8]) -> Reply
+        requires { has self.now (sought_kinds what) name.now ≡ true }
+        ensures leads { objects_done (sought_word what) (args.Name name.now ∷ []) self.now
+            ≡ Some (self.now, result) }
+        ensures named { IsNamed result }
+        ensures short { IsShort result }
+    {
+        let slots = self.slots.as_slice();
+        let Some(slot) = slot_of(slots, name) else {
+            unreachable!()
+        };
+        number_reply(number_at_place(slots, slot, what.near()))
+    }
+
+    /// `succ i` and `pred i`, and `cyclic_succ i` and `cyclic_pred i`: a neighbour of an item of a
+    /// list, or, by the first two, of a dictionary in the order of its keys.
     pub fn neighbour(&self, what: Neighbour, number: u32) -> Reply
-        requires { holds self.now kinds.List number ≡ true }
+        requires { holds self.now (neighbour_kinds what) number ≡ true }
         ensures leads { objects_done (neighbour_word what) (args.Cell number ∷ []) self.now
             ≡ Some (self.now, result) }
         ensures named { IsNamed result }

@@ -50,9 +50,13 @@ const CONTAINER: Form = Form::Object(Kinds::Container);
 
 const LIST: Form = Form::Object(Kinds::List);
 
+const ORDERED: Form = Form::Object(Kinds::ListOrDict);
+
 const CELL: Form = Form::Cell(Kinds::Container);
 
 const LIST_CELL: Form = Form::Cell(Kinds::List);
+
+const ORDERED_CELL: Form = Form::Cell(Kinds::ListOrDict);
 
 const DICT_CELL: Form = Form::Cell(Kinds::Dict);
 
@@ -74,7 +78,7 @@ macro_rules! rows {
 pub(crate) use rows;
 
 /// The table. All that is said of a command before it runs is said here.
-pub(crate) const TABLE: [Entry; 60] = rows! {
+pub(crate) const TABLE: [Entry; 64] = rows! {
     "node"            Edit(EditWord::Node)             [LABEL]              Taken;
     "edge"            Edit(EditWord::Edge)             [NODE, NODE, LABEL]  Taken;
     "edge_before"     Edit(EditWord::EdgeBefore)       [EDGE, NODE, LABEL]  Taken;
@@ -124,6 +128,10 @@ pub(crate) const TABLE: [Entry; 60] = rows! {
     "insert_behind"   Object(ObjectWord::InsertBehind) [LIST_CELL, NUM]     Taken;
     "contents"        Object(ObjectWord::Contents)     [LIST_CELL]          NotTaken;
     "assign"          Object(ObjectWord::Assign)       [LIST_CELL, NUM]     NotTaken;
+    "first"           Object(ObjectWord::First)        [ORDERED]            NotTaken;
+    "last"            Object(ObjectWord::Last)         [ORDERED]            NotTaken;
+    "succ"            Object(ObjectWord::Succ)         [ORDERED_CELL]       NotTaken;
+    "pred"            Object(ObjectWord::Pred)         [ORDERED_CELL]       NotTaken;
     "cyclic_succ"     Object(ObjectWord::CyclicSucc)   [LIST_CELL]          NotTaken;
     "cyclic_pred"     Object(ObjectWord::CyclicPred)   [LIST_CELL]          NotTaken;
     "move_to_front"   Object(ObjectWord::MoveToFront)  [LIST_CELL]          NotTaken;

@@ -1,5 +1,5 @@
 -- The dictionary has the item, which then has the information.
-use Rattle.std.proofs.Common.{ap, subst, sym}
+use Rattle.std.proofs.Common.{subst, sym}
 use Rattle.object_store.specs.declared.change.Change.{Change}
 use Rattle.object_store.specs.declared.object.Object.TheVariants as held
 use Rattle.object_store.specs.Change.{Allows, IsChanged}

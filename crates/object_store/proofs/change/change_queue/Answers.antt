@@ -1,5 +1,5 @@
 -- The queue has the item, which then has the information or the priority.
-use Rattle.std.proofs.Common.{ap, subst, sym, rules, w64}
+use Rattle.std.proofs.Common.{subst, sym, rules, w64}
 use Rattle.std.specs.Prelude.{FitsSigned}
 use Rattle.std.proofs.lemmas.Int.{to_z-of_z}
 use Rattle.object_store.specs.declared.change.Change.{Change}

@@ -1,5 +1,5 @@
 -- The list has the item, which then stands at the end.
-use Rattle.std.proofs.Common.{ap, subst, sym}
+use Rattle.std.proofs.Common.{subst, sym}
 use Rattle.object_store.specs.declared.change.Change.TheVariants.{Move}
 use Rattle.object_store.specs.declared.entrance.End.{End}
 use Rattle.object_store.specs.declared.object.Object.TheVariants as held

@@ -1,12 +1,11 @@
 -- The object has no items, and then its place is free.
-use Rattle.std.proofs.Common.{◌≡◌, ℕ, true, [], Some, None, refl, sym, ap, subst, ◌∙◌, inr}
-use Rattle.std.specs.Prelude.{⊤, slice_get, slice_set}
+use Rattle.std.proofs.Common.{◌≡◌, [], Some, sym, ap, ◌∙◌, inr}
 use Rattle.script_text.specs.declared.form.Kinds.TheVariants as kinds
 use Rattle.reply_text.specs.declared.reply.Reply.TheVariants.{Line}
 use Rattle.reply_text.specs.declared.reply.ReplyLine.TheVariants.{Empty}
-use Rattle.reply_text.specs.Outcome.{Outcome, done}
+use Rattle.reply_text.specs.Outcome.{done}
 use Rattle.object_store.specs.declared.slots.Named.{Named}
-use Rattle.object_store.specs.State.{Object, ObjectState}
+use Rattle.object_store.specs.State.{ObjectState}
 use Rattle.object_store.specs.Commands.{without_object}
 use Rattle.object_store.specs.Inner.{inner}
 use Rattle.object_store.specs.Kept.{state_of}

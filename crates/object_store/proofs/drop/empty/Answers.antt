@@ -1,11 +1,9 @@
 -- An item of the object goes each turn.
 use Rattle.std.proofs.Common.{◌≡◌, Some, None, refl, sym, ap, subst, ◌∙◌}
-use Rattle.std.specs.Prelude.{⊤, slice_get}
-use Rattle.std.specs.FinMap as finmap
+use Rattle.std.specs.Prelude.{⊤}
 use Rattle.object_store.specs.declared.objects.Place.{Place}
-use Rattle.object_store.specs.declared.slots.Named.{Named}
 use Rattle.object_store.specs.Entrance.{Leaves}
-use Rattle.object_store.specs.Kept.{Places, Replaces}
+use Rattle.object_store.specs.Kept.{Replaces}
 use Rattle.object_store.proofs.Dropping.{replaces_same, replaces_any, replaces_more, replaces_bare, replaced_there}
 use Rattle.object_store.proofs.drop.empty.Goals as goal
 

@@ -1,5 +1,5 @@
 -- The dictionary has the item of its least key.
-use Rattle.std.proofs.Common.{◌≡◌, [], ◌∷◌, refl}
+use Rattle.std.proofs.Common.{[], ◌∷◌, refl}
 use Rattle.object_store.proofs.ItemsRead.{dict_at, dict_bare}
 use Rattle.object_store.proofs.drop.least_number.Goals as goal
 

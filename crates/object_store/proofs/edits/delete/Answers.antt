@@ -1,15 +1,13 @@
 -- The object has the items without that of the number.
-use Rattle.std.proofs.Common.{◌≡◌, ℕ, List, Some, sym, ap, ◌∙◌, inr}
+use Rattle.std.proofs.Common.{ℕ, List, Some, sym, ap, ◌∙◌, inr}
 use Rattle.std.specs.Prelude.{ℤ}
 use Rattle.item_list.specs.Items.{pairs_without}
 use Rattle.script_text.specs.declared.form.Kinds.TheVariants as kinds
 use Rattle.reply_text.specs.declared.reply.Reply.TheVariants.{Line}
 use Rattle.reply_text.specs.declared.reply.ReplyLine.TheVariants.{Empty}
 use Rattle.reply_text.specs.Outcome.{Outcome, done}
-use Rattle.object_store.specs.declared.slots.Named.{Named}
 use Rattle.object_store.specs.State.{Object, ObjectState}
 use Rattle.object_store.specs.Commands.{with_cells}
-use Rattle.object_store.specs.Inner.{cells_in, seen}
 use Rattle.object_store.specs.Kept.{state_of}
 use Rattle.object_store.proofs.Leads.{cell_found, cell_at, on_cell_there}
 use Rattle.object_store.proofs.edits.delete.Goals as goal

@@ -1,16 +1,15 @@
 -- The list has an entrance at the end.
-use Rattle.std.proofs.Common.{◌≡◌, ℕ, ◌+◌, true, List, [], ◌∷◌, map, refl, sym, ap, subst, ◌∙◌, w64, to_z, of_z}
+use Rattle.std.proofs.Common.{◌≡◌, ℕ, ◌+◌, true, List, [], ◌∷◌, map, sym, ap, subst, ◌∙◌, w64, to_z, of_z}
 use Rattle.std.specs.Prelude.{ℤ}
 use Rattle.std.proofs.lemmas.Int.{to_z-of_z}
 use Rattle.script_text.specs.declared.form.Kinds.TheVariants as kinds
 use Rattle.reply_text.specs.Outcome.{Outcome, Gives}
 use Rattle.object_store.specs.declared.entrance.Entrance.{Entrance}
-use Rattle.object_store.specs.declared.slots.Named.{Named}
 use Rattle.object_store.specs.State.{Object, ObjectState}
 use Rattle.object_store.specs.Commands.{on_object, enters, next}
 use Rattle.object_store.specs.Inner.{inner, made_in, cell_in, seen}
-use Rattle.object_store.specs.Entrance.{entered, values_of, at_end, with_end, Fits}
-use Rattle.object_store.specs.Kept.{state_of, HasAt}
+use Rattle.object_store.specs.Entrance.{entered, with_end, Fits}
+use Rattle.object_store.specs.Kept.{state_of}
 use Rattle.object_store.proofs.Leads.{leads, kind_there, on_object_there, name_found}
 use Rattle.object_store.proofs.Rows.{fits_end, cells_end}
 use Rattle.object_store.proofs.edits.put_at_end.Goals as goal

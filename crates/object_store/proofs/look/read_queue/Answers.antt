@@ -1,17 +1,11 @@
 -- The queue has the item.
-use Rattle.std.proofs.Common.{◌≡◌, ◌∷◌, [], ap, sym, subst, ◌∙◌, rules, w64, to_z, of_z}
+use Rattle.std.proofs.Common.{◌∷◌, [], ap, sym, ◌∙◌, rules, w64}
 use Rattle.std.specs.Prelude.{FitsSigned}
 use Rattle.std.proofs.lemmas.Int.{to_z-of_z}
-use Rattle.item_list.specs.Items.{value_at}
-use Rattle.object_store.specs.declared.object.Object.{Object}
 use Rattle.object_store.specs.declared.part.Reading.{Reading}
-use Rattle.object_store.specs.Views.{is_of}
-use Rattle.object_store.specs.Words.{read, reading_kinds}
-use Rattle.object_store.specs.Inner.{inner, kind_of}
-use Rattle.object_store.specs.Look.{IsRead}
-use Rattle.object_store.proofs.Entered.{list_value}
-use Rattle.object_store.proofs.Going.{list_lacks, dict_lacks, queue_lacks}
-use Rattle.object_store.proofs.ItemsRead.{dict_at, queue_at, list_read, head_read}
+use Rattle.object_store.specs.Words.{read}
+use Rattle.object_store.proofs.Going.{queue_lacks}
+use Rattle.object_store.proofs.ItemsRead.{queue_at, head_read}
 use Rattle.object_store.proofs.look.read_queue.Goals as goal
 
 pub unreachable-requires : goal.unreachable-requires

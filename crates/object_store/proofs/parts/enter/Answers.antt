@@ -1,15 +1,12 @@
 -- The item comes in under the next number, or all is as it was.
-use Rattle.std.proofs.Common.{◌≡◌, ℕ, ◌+◌, true, List, map, Some, None, refl, sym, ap, subst, ◌∙◌, inl, inr}
-use Rattle.std.specs.Prelude.{slice_get}
-use Rattle.item_pool.specs.Contents.{Contents}
-use Rattle.object_store.specs.declared.objects.Place.{Place}
+use Rattle.std.proofs.Common.{◌≡◌, ℕ, ◌+◌, List, map, Some, refl, sym, ap, subst, ◌∙◌, inl, inr}
 use Rattle.object_store.specs.declared.slots.Named.{Named}
-use Rattle.object_store.specs.State.{Cell, ObjectState}
-use Rattle.object_store.specs.Commands.{with_cells, full_cell}
+use Rattle.object_store.specs.State.{Cell}
+use Rattle.object_store.specs.Commands.{with_cells}
 use Rattle.object_store.specs.Inner.{inner, made_in, cell_in, seen}
 use Rattle.std.proofs.lemmas.Int.{to_z-of_z}
 use mir.Syntax.{w64}
-use Rattle.object_store.specs.Kept.{state_of, Replaces}
+use Rattle.object_store.specs.Kept.{Replaces}
 use Rattle.object_store.specs.Entrance.{entered, values_of, Enters}
 use Rattle.object_store.proofs.Entered.{fits_old, entered_reply}
 use Rattle.object_store.proofs.Steps.{kept_room, state_room, kept_like, state_like, kept_enters, state_enters}

@@ -1,10 +1,5 @@
 -- The pool has one item less.
-use Rattle.std.proofs.Common.{◌≡◌, ℕ, ◌+◌, ◌-◌, ◌<◌, ◌≤◌, cond, is_some, Some, refl, sym, ap, ◌∙◌, arith}
-use Rattle.std.specs.Ordering.{nat_cmp}
-use Rattle.std.specs.Cmp.{nat_cmp_total}
-use Rattle.std.specs.FinMap as finmap
-use Rattle.item_dict.proofs.Maps.{len_less}
-use Rattle.std.specs.Prelude.{slice_get}
+use Rattle.std.proofs.Common.{◌≡◌, Some, refl, sym, ap, ◌∙◌}
 use Rattle.item_list.specs.Items.{pairs_without}
 use Rattle.object_store.specs.declared.slots.Named.{Named}
 use Rattle.object_store.specs.Commands.{with_cells}

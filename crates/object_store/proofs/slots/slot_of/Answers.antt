@@ -1,5 +1,5 @@
 -- The place has an object with the name, or goes by.
-use Rattle.std.proofs.Common.{◌≡◌, ℕ, ◌+◌, ◌<◌, ◌≢◌, Bool, true, false, Some, None, length, slice_get, refl, sym, ap, subst, ◌∙◌, ⊎_elim, arith, eq-eqb}
+use Rattle.std.proofs.Common.{◌≡◌, ◌<◌, ◌≢◌, true, false, Some, length, slice_get, refl, sym, ap, ◌∙◌, ⊎_elim, arith, eq-eqb}
 use Rattle.std.proofs.lemmas.Bool.{eqb-true, cases_eq}
 use Rattle.std.proofs.lemmas.Option.{slice_get_read}
 use Rattle.std.proofs.lemmas.Slice.Eq.{slice_eq-Decides}

@@ -1,5 +1,5 @@
 -- There are as many items as entries of the map.
-use Rattle.std.proofs.Common.{◌≡◌, map, length, sym, ap, subst, ◌∙◌}
+use Rattle.std.proofs.Common.{map, length, sym, ap, ◌∙◌}
 use Rattle.std.specs.FinMap as finmap
 use Rattle.object_store.specs.declared.object.Object.{Object}
 use Rattle.object_store.specs.Inner.{cell_in, cells_in, dict_cell, queue_cell}

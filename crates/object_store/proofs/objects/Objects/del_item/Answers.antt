@@ -1,14 +1,12 @@
 -- The places and the pool stand for the objects.
-use Rattle.std.proofs.Common.{◌≡◌, true, false, [], ◌∷◌, sym, ap, subst, ◌∙◌}
+use Rattle.std.proofs.Common.{false, [], ◌∷◌, sym, ap, subst, ◌∙◌}
 use Rattle.item_queue.proofs.Written.{items_back}
 use Rattle.script_text.specs.declared.argument.Arg.TheVariants as args
 use Rattle.script_text.specs.declared.form.Kinds.TheVariants as kinds
 use Rattle.script_text.specs.declared.word.ObjectWord.TheVariants as words
 use Rattle.object_store.specs.State.{ObjectState}
-use Rattle.object_store.specs.Commands.{objects_done}
 use Rattle.object_store.specs.Views.{holds_cell}
 use Rattle.object_store.specs.Kept.{Places, state_of, IsKept}
-use Rattle.object_store.specs.Leads.{Leads}
 use Rattle.object_store.proofs.Leads.{led}
 use Rattle.object_store.proofs.objects.Objects.del_item.Goals as goal
 

@@ -1,5 +1,5 @@
 -- The pool has just the items that are there.
-use Rattle.std.proofs.Common.{◌≡◌, true, false, Some, None, is_some, sym, ap, subst, ◌∙◌}
+use Rattle.std.proofs.Common.{is_some, sym, ap, subst, ◌∙◌}
 use Rattle.object_store.specs.State.{ObjectState}
 use Rattle.object_store.specs.Views.{is_live}
 use Rattle.item_pool.specs.Contents.{WhyGone}

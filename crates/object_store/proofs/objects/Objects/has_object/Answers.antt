@@ -1,5 +1,5 @@
 -- The object of the name stands at its place.
-use Rattle.std.proofs.Common.{◌≡◌, Some, None, sym, ap, ◌∙◌}
+use Rattle.std.proofs.Common.{◌≡◌, None, sym, ap, ◌∙◌}
 use Rattle.object_store.specs.declared.slots.Named.{Named}
 use Rattle.object_store.specs.State.{ObjectState}
 use Rattle.object_store.specs.Views.{is_of, has_object}

@@ -1,11 +1,11 @@
 -- The pool has the place of the item's object.
-use Rattle.std.proofs.Common.{◌≡◌, false, Some, None, refl, sym, ap, ◌∙◌}
+use Rattle.std.proofs.Common.{◌≡◌, Some, refl, sym, ap, ◌∙◌}
 use Rattle.std.specs.Prelude.{slice_get}
 use Rattle.object_store.specs.declared.slots.Named.{Named}
 use Rattle.object_store.specs.State.{ObjectState}
 use Rattle.object_store.specs.Views.{is_of, holds_cell}
 use Rattle.object_store.specs.Inner.{kind_of}
-use Rattle.object_store.specs.Kept.{Places, IsAt}
+use Rattle.object_store.specs.Kept.{Places}
 use Rattle.object_store.proofs.Looks.{holds_there, holds_none}
 use Rattle.object_store.proofs.objects.Objects.holds_cell.Goals as goal
 

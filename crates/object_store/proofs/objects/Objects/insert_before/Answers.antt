@@ -1,5 +1,5 @@
 -- The places and the pool stand for the objects.
-use Rattle.std.proofs.Common.{◌≡◌, true, false, [], ◌∷◌, sym, ap, subst, ◌∙◌, w64}
+use Rattle.std.proofs.Common.{true, [], ◌∷◌, sym, ap, subst, ◌∙◌, w64}
 use Rattle.std.specs.Prelude.{ℤ}
 use Rattle.std.proofs.lemmas.Int.{to_z-of_z}
 use Rattle.item_queue.proofs.Written.{items_back}

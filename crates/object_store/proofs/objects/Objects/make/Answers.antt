@@ -1,5 +1,5 @@
 -- The object comes into a free place.
-use Rattle.std.proofs.Common.{◌≡◌, ◌≢◌, true, Some, None, refl, sym, ap, subst, ◌∙◌, inl, inr}
+use Rattle.std.proofs.Common.{◌≡◌, ◌≢◌, None, refl, sym, ap, subst, ◌∙◌, inl, inr}
 use Rattle.std.specs.FinMap as finmap
 use Rattle.script_text.specs.declared.form.Kinds.TheVariants.{Any}
 use Rattle.object_store.specs.declared.objects.TheConstants.{OBJECT_LIMIT}

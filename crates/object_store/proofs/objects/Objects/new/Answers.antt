@@ -3,7 +3,7 @@ use Rattle.std.proofs.Common.{[], sym, subst}
 use Rattle.item_pool.specs.Contents.{Contents}
 use Rattle.object_store.specs.declared.objects.Place.{Place}
 use Rattle.object_store.specs.Kept.{Places, IsKept}
-use Rattle.object_store.proofs.Makes.{kept_empty, nobody}
+use Rattle.object_store.proofs.Makes.{kept_empty}
 use Rattle.object_store.proofs.objects.Objects.new.Goals as goal
 
 pub invariant_of-result : goal.invariant_of-result

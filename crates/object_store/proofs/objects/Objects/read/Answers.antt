@@ -1,18 +1,15 @@
 -- The item is there, and holds what is read.
-use Rattle.std.proofs.Common.{◌≡◌, true, [], ◌∷◌, Some, None, refl, sym, ap, subst, ◌∙◌, rules, w64}
+use Rattle.std.proofs.Common.{◌≡◌, [], ◌∷◌, Some, sym, ap, ◌∙◌, rules, w64}
 use Rattle.std.specs.Prelude.{slice_get, FitsSigned}
 use Rattle.std.proofs.lemmas.Int.{to_z-of_z}
-use Rattle.item_list.specs.Items.{value_at}
 use Rattle.script_text.specs.declared.argument.Arg.TheVariants as args
 use Rattle.reply_text.specs.declared.reply.Reply.TheVariants.{Line}
 use Rattle.reply_text.specs.declared.reply.ReplyLine.TheVariants.{Num}
-use Rattle.object_store.specs.declared.slots.Named.{Named}
 use Rattle.object_store.specs.State.{Cell, ObjectState}
 use Rattle.object_store.specs.Commands.{objects_done}
 use Rattle.object_store.specs.Views.{holds_cell}
 use Rattle.object_store.specs.Words.{read, reading_word, reading_kinds}
-use Rattle.object_store.specs.Inner.{inner}
-use Rattle.object_store.specs.Kept.{Places, state_of}
+use Rattle.object_store.specs.Kept.{Places}
 use Rattle.object_store.proofs.Edited.{moved_to, read_row}
 use Rattle.object_store.proofs.Leads.{cell_found, cell_at}
 use Rattle.object_store.proofs.objects.Objects.read.Goals as goal

@@ -1,23 +1,20 @@
 -- The item is there, and then holds what is written.
-use Rattle.std.proofs.Common.{◌≡◌, true, false, [], ◌∷◌, Some, refl, sym, ap, subst, ◌∙◌, inr, w64, to_z, of_z}
-use Rattle.std.specs.Prelude.{ℤ, slice_get}
+use Rattle.std.proofs.Common.{false, [], ◌∷◌, refl, sym, ap, subst, ◌∙◌, inr, w64, to_z, of_z}
+use Rattle.std.specs.Prelude.{slice_get}
 use Rattle.std.proofs.lemmas.Int.{to_z-of_z}
 use Rattle.item_queue.proofs.Written.{items_back}
 use Rattle.script_text.specs.declared.argument.Arg.TheVariants as args
-use Rattle.script_text.specs.declared.form.Kinds.TheVariants as kinds
 use Rattle.reply_text.specs.declared.reply.Reply.TheVariants.{Line}
 use Rattle.reply_text.specs.declared.reply.ReplyLine.TheVariants.{Empty}
 use Rattle.object_store.specs.declared.change.Change.TheVariants.{Write}
-use Rattle.script_text.specs.declared.word.ObjectWord.TheVariants as words
 use Rattle.object_store.specs.State.{ObjectState}
-use Rattle.object_store.specs.Views.{has_object, holds_cell}
-use Rattle.object_store.specs.Words.{writing_word, writing_kinds, moving_word}
+use Rattle.object_store.specs.Views.{holds_cell}
+use Rattle.object_store.specs.Words.{writing_word, writing_kinds}
 use Rattle.object_store.specs.Change.{IsChanged}
 use Rattle.object_store.specs.Kept.{Places, state_of, IsKept, Replaces}
 use Rattle.object_store.proofs.Changes.{kept_changed}
-use Rattle.object_store.proofs.Edited.{moved_to, list_kind, write_row, move_given, turn_row}
-use Rattle.object_store.proofs.Leads.{cell_found, cell_at, name_found, kind_there, led}
-use Rattle.object_store.proofs.Places.{named_at}
+use Rattle.object_store.proofs.Edited.{moved_to, write_row}
+use Rattle.object_store.proofs.Leads.{cell_found, cell_at, led}
 use Rattle.object_store.proofs.objects.Objects.write.Goals as goal
 
 pub unreachable-requires : goal.unreachable-requires
