@@ -1,6 +1,6 @@
 -- Lines that are answered by want of memory, or by what refuses them.
 use Rattle.std.proofs.Common.{◌≡◌, ℕ, Bool, true, false, List, refl, sym, ◌∙◌, ap, subst, inl, inr}
-use Rattle.std.specs.Prelude.{Option, None, Some, Result, Ok, Err}
+use Rattle.std.specs.Prelude.{Option, Some, Result, Ok, Err}
 use Rattle.std.specs.Bool.{MatchBool, OnFalse}
 use Rattle.leda_edge.specs.Stored.{Stored}
 use Rattle.script_text.specs.declared.line.Line.TheVariants.{Command}
@@ -16,7 +16,9 @@ use Rattle.reply_text.specs.declared.refusal.Refusal.TheVariants.{Memory}
 use Rattle.reply_text.specs.Text.{reply_text, IsShort}
 use Rattle.console_state.specs.State.{State}
 use Rattle.console_state.specs.Step.{Step, IsQuietStep}
+use Rattle.console_run.specs.declared.top.Status.{Status}
 use Rattle.console_run.specs.Session.{Meets, refusal_of}
+use Rattle.console_run.specs.Strict.{end_of}
 use Rattle.console_run.specs.Progress.{RanCommand, RanLine}
 
 -- want of memory in the place of a long reply
@@ -27,11 +29,11 @@ lacking s f said reply s' f' long (inl short) = absurd (long short)
 lacking s f said reply s' f' long (inr lacks) = inl lacks
 
 -- a line that is a command was run as the command was
-pub ran-command : (line bytes : List ℕ) (said passed : Said) (s : State) (f : Stored)
-    (text : List ℕ)
+pub ran-command : (strict : Bool) (line bytes : List ℕ) (said passed : Said) (s : State)
+    (f : Stored) (text : List ℕ) (ended : Option Status)
     (s' : State) (f' : Stored) → bytes ≡ line → line_of bytes ≡ Ok (Command said) → passed ≡ said
-    → RanCommand passed s f text s' f' → RanLine line s f text s' f'
-ran-command line bytes said passed s f text s' f' same e is ran = record {
+    → RanCommand strict passed s f text ended s' f' → RanLine strict line s f text ended s' f'
+ran-command strict line bytes said passed s f text ended s' f' same e is ran = record {
   answer = Some ran.reply;
   step = subst (λ m. Meets m s f (Some ran.reply) s' f') (sym e ∙ ap line_of same)
       (record {
@@ -41,6 +43,7 @@ ran-command line bytes said passed s f text s' f' same e is ran = record {
             (λ c. Step s f c ran.reply s' f') is ran.step;
       });
   text_is = ran.text_is;
+  ended_is = ran.ended_is;
 }
 
 -- a line of which this is known is met as this
@@ -50,25 +53,30 @@ met_as : (line : List ℕ) (meaning : Result _ LineRefusal) (s : State) (f : Sto
 met_as line meaning s f answer e m = subst (λ m. Meets m s f answer s f) (sym e) m
 
 -- a line that isn't run
-not_run : (line : List ℕ) (fault : LineRefusal) (s : State) (f : Stored) (text : List ℕ)
+not_run : (strict : Bool) (line : List ℕ) (fault : LineRefusal) (s : State) (f : Stored)
+    (text : List ℕ) (ended : Option Status)
     → Reads (line_of line) (Err fault) → text ≡ reply_text (Refused (refusal_of fault))
-    → RanLine line s f text s f
-not_run line faults.LongLine s f text e t = record {
+    → ended ≡ end_of strict (Some (Refused (refusal_of fault)))
+    → RanLine strict line s f text ended s f
+not_run strict line faults.LongLine s f text ended e t ends = record {
   answer = Some (Refused (refusal_of faults.LongLine));
   step = met_as line _ s f _ e (refl, record { state = refl; files = refl });
   text_is = t;
+  ended_is = ends;
 }
-not_run line (faults.Syntax column) s f text e t = record {
+not_run strict line (faults.Syntax column) s f text ended e t ends = record {
   answer = Some (Refused (refusal_of (faults.Syntax column)));
   step = met_as line _ s f _ e (refl, record { state = refl; files = refl });
   text_is = t;
+  ended_is = ends;
 }
-not_run line (faults.Number column) s f text e t = record {
+not_run strict line (faults.Number column) s f text ended e t ends = record {
   answer = Some (Refused (refusal_of (faults.Number column)));
   step = met_as line _ s f _ e (refl, record { state = refl; files = refl });
   text_is = t;
+  ended_is = ends;
 }
-not_run line faults.NoMemory s f text k t = record {
+not_run strict line faults.NoMemory s f text ended k t ends = record {
   answer = Some (Refused Memory);
   step = met_as line _ s f _ k.is (record {
     reply = Refused Memory;
@@ -76,15 +84,19 @@ not_run line faults.NoMemory s f text k t = record {
     step = inl (record { may = keeps-may_lack k.said.word k.keeps; answer = refl; state = refl });
   });
   text_is = t;
+  ended_is = ends;
 }
 
-pub not-run : (line bytes : List ℕ) (fault : LineRefusal) (refusal : Refusal) (s : State)
-    (f : Stored) (text : List ℕ)
+pub not-run : (strict : Bool) (line bytes : List ℕ) (fault : LineRefusal) (refusal : Refusal)
+    (s : State) (f : Stored) (text : List ℕ) (ended : Option Status)
     → bytes ≡ line → Reads (line_of bytes) (Err fault) → refusal ≡ refusal_of fault
-    → text ≡ reply_text (Refused refusal) → RanLine line s f text s f
-not-run line bytes fault refusal s f text same reads is t =
-    not_run line fault s f text (subst (λ bs. Reads (line_of bs) (Err fault)) same reads)
+    → text ≡ reply_text (Refused refusal) → ended ≡ end_of strict (Some (Refused refusal))
+    → RanLine strict line s f text ended s f
+not-run strict line bytes fault refusal s f text ended same reads is t ends =
+    not_run strict line fault s f text ended
+    (subst (λ bs. Reads (line_of bs) (Err fault)) same reads)
     (t ∙ ap (λ r. reply_text (Refused r)) is)
+    (ends ∙ ap (λ r. end_of strict (Some (Refused r))) is)
 
 -- the text of a short reply is its own
 pub own-text : (own : Bool) (reply : Reply) (text : List ℕ) (other : Type 0) → IsShort reply

@@ -6,3 +6,4 @@ pub mod Advances
 pub mod Outcomes
 pub mod Pumps
 pub mod Lacking
+pub mod Stopped

@@ -1,7 +1,7 @@
 //! A session with the buffers of its script and its replies.
-ghost use Rattle.std.specs.Prelude.{◌≡◌, ℕ, ◌+◌, ◌≤◌, ◌<◌, List, [], ◌++◌, length, drop, vec_len, vec_capacity, IfSome, IfNone, IfOk, OnOk, OnErr};
+ghost use Rattle.std.specs.Prelude.{◌≡◌, ℕ, Some, ◌+◌, ◌≤◌, ◌<◌, List, [], ◌++◌, length, drop, vec_len, vec_capacity, IfSome, IfNone, IfOk, IfErr, OnOk};
 ghost use Rattle.std.specs.Bool.{MatchBool, OnFalse};
-ghost use Rattle.leda_edge.specs.Causes.{HasCause};
+ghost use Rattle.leda_edge.specs.Causes.{Rose};
 ghost use Rattle.leda_edge.specs.Parts.{StaysTold};
 ghost use Rattle.leda_edge.specs.Stored.{Stored, stored, StaysStored};
 ghost use Rattle.script_text.specs.Line.{kept_of};
@@ -10,11 +10,14 @@ ghost use Rattle.reply_text.specs.Text.{reply_text, IsNamed, IsShort};
 ghost use Rattle.reply_text.specs.declared.reply.Reply.TheVariants.{Refused};
 ghost use Rattle.reply_text.specs.declared.refusal.Refusal.TheVariants.{Memory};
 ghost use Rattle.console_state.specs.State.{empty};
+ghost use Rattle.console_run.specs.declared.console.TheConstants.{KEPT_LIMIT, REPLY_ROOM};
 ghost use Rattle.console_run.specs.Session.{refusal_of};
 ghost use Rattle.console_run.specs.Answers.{Known, Answered};
+ghost use Rattle.console_run.specs.Strict.{end_of, IsRefusal};
 ghost use Rattle.console_run.specs.Lines.{lines_of, IsPlain};
 ghost use Rattle.console_run.specs.Progress.{EndsLine, RanCommand, RanLine, WroteReply, CutReply, Progress, Broken};
 
+use crate::top::Status;
 use console_state::Session;
 use leda_edge::{Failed, Sink, Store, put_all};
 use memchr::memchr;
@@ -58,61 +61,92 @@ impl Console {
     }
 
     /// Runs a command, and leaves the text of its reply in the empty buffer.
-    fn run_command<F: Store>(&mut self, command: Command, files: &mut F)
+    ///
+    /// The status with which the run ends behind the reply, if it does.
+    fn run_command<F: Store>(
+        &mut self,
+        strict: bool,
+        command: Command,
+        files: &mut F,
+    ) -> Option<Status>
         requires whole { IsWhole command }
         requires empty { self.old.reply.items ≡ [] }
-        ensures ran { RanCommand command
-            self.old.session (stored (F.files files.old) (F.faults files.old)) self.new.reply.items
+        ensures ran { RanCommand strict command
+            self.old.session (stored (F.files files.old) (F.faults files.old))
+            self.new.reply.items result
             self.new.session (stored (F.files files.new) (F.faults files.new)) }
         ensures store { StaysStored (stored (F.files files.old) (F.faults files.old))
             (stored (F.files files.new) (F.faults files.new)) }
+        ensures refused { IfSome result IsRefusal }
     {
         let reply = self.session.apply(&command, files);
         if put_text(&mut self.reply, &reply) {
+            let ended = end_behind(strict, &reply);
             self.session.keep(command, reply);
+            ended
+        } else {
+            end_behind(strict, &Reply::Refused(Refusal::Memory))
         }
     }
 
     /// Runs the line in the buffer, and leaves the text of its reply in the other.
-    fn run_line<F: Store>(&mut self, files: &mut F)
-        ensures ran { RanLine self.old.line.items
-            self.old.session (stored (F.files files.old) (F.faults files.old)) self.new.reply.items
+    ///
+    /// The status with which the run ends behind the reply, if it does.
+    fn run_line<F: Store>(&mut self, strict: bool, files: &mut F) -> Option<Status>
+        ensures ran { RanLine strict self.old.line.items
+            self.old.session (stored (F.files files.old) (F.faults files.old))
+            self.new.reply.items result
             self.new.session (stored (F.files files.new) (F.faults files.new)) }
         ensures store { StaysStored (stored (F.files files.old) (F.faults files.old))
             (stored (F.files files.new) (F.faults files.new)) }
+        ensures refused { IfSome result IsRefusal }
     {
         self.reply.clear();
         match parse_line(self.alloc, self.line.as_slice()) {
-            Ok(Line::Nothing) => {}
-            Ok(Line::Command(command)) => self.run_command(command, files),
+            Ok(Line::Nothing) => None,
+            Ok(Line::Command(command)) => self.run_command(strict, command, files),
             Err(fault) => {
-                put_text(&mut self.reply, &Reply::Refused(refusal_of(fault)));
+                let reply = Reply::Refused(refusal_of(fault));
+                put_text(&mut self.reply, &reply);
+                end_behind(strict, &reply)
             }
         }
     }
 
     /// Runs the line in the buffer, writes its reply, and leaves the buffer empty for the next
     /// line.
+    ///
+    /// # Errors
+    /// The status of a run that ends at this reply.
     pub(crate) fn end_line<F: Store, K: Sink>(
         &mut self,
+        strict: bool,
         files: &mut F,
         out: &mut K,
-    ) -> Result<(), Failed>
+    ) -> Result<(), Status>
         ensures empty { self.new.line.items ≡ [] }
-        ensures ok { OnOk result (WroteReply self.old.line.items
+        ensures ok { OnOk result (WroteReply strict self.old.line.items
             self.old.session (stored (F.files files.old) (F.faults files.old)) (K.held out.old)
             self.new.session (stored (F.files files.new) (F.faults files.new)) (K.held out.new)) }
-        ensures err { OnErr result (CutReply self.old.line.items
+        ensures err { IfErr result (λ status. CutReply strict status self.old.line.items
             self.old.session (stored (F.files files.old) (F.faults files.old)) (K.held out.old)
             self.new.session (stored (F.files files.new) (F.faults files.new)) (K.held out.new)) }
         ensures told { StaysTold (K.held out.old) (K.held out.new) }
-        ensures cause { HasCause (K.faults out.old) (K.faults out.new) result }
+        ensures later { K.faults out.old ≤ K.faults out.new }
+        ensures cause { IfErr result (λ status. status ≡ Status.WriteFault
+            → Rose (K.faults out.old) (K.faults out.new)) }
         ensures store { StaysStored (stored (F.files files.old) (F.faults files.old))
             (stored (F.files files.new) (F.faults files.new)) }
     {
-        self.run_line(files);
+        let ended = self.run_line(strict, files);
         self.line.clear();
-        put_all(out, self.reply.as_slice())
+        if let Err(Failed) = put_all(out, self.reply.as_slice()) {
+            return Err(Status::WriteFault);
+        }
+        match ended {
+            Some(status) => Err(status),
+            None => Ok(()),
+        }
     }
 
     /// Puts bytes behind the unfinished line, as many as tell what it means.
@@ -127,32 +161,41 @@ impl Console {
     }
 
     /// Takes the next bytes of the script, and answers each line that they end.
+    ///
+    /// # Errors
+    /// The status of a run that ends at the reply to one of them.
     pub(crate) fn feed<F: Store, K: Sink>(
         &mut self,
+        strict: bool,
         files: &mut F,
         out: &mut K,
         piece: &[u8],
-    ) -> Result<(), Failed>
-        ensures ok { (held : Known) (before : Stored) (taken : List ℕ) → Progress held before taken
+    ) -> Result<(), Status>
+        ensures ok { (held : Known) (before : Stored) (taken : List ℕ)
+            → Progress strict held before taken
             (K.held out.old) (stored (F.files files.old) (F.faults files.old))
             self.old.session self.old.line.items
-            → OnOk result (Progress held before (taken ++ piece.now)
+            → OnOk result (Progress strict held before (taken ++ piece.now)
             (K.held out.new) (stored (F.files files.new) (F.faults files.new))
             self.new.session self.new.line.items) }
-        ensures err { (held : Known) (before : Stored) (taken : List ℕ) → Progress held before taken
+        ensures err { (held : Known) (before : Stored) (taken : List ℕ)
+            → Progress strict held before taken
             (K.held out.old) (stored (F.files files.old) (F.faults files.old))
             self.old.session self.old.line.items
-            → OnErr result (Broken held before (taken ++ piece.now)
-            (K.held out.new) (stored (F.files files.new) (F.faults files.new))) }
+            → IfErr result (λ status. Broken strict status held before
+            (taken ++ piece.now) (K.held out.new)
+            (stored (F.files files.new) (F.faults files.new))) }
         ensures told { StaysTold (K.held out.old) (K.held out.new) }
-        ensures cause { HasCause (K.faults out.old) (K.faults out.new) result }
+        ensures later { K.faults out.old ≤ K.faults out.new }
+        ensures cause { IfErr result (λ status. status ≡ Status.WriteFault
+            → Rose (K.faults out.old) (K.faults out.new)) }
         ensures store { StaysStored (stored (F.files files.old) (F.faults files.old))
             (stored (F.files files.new) (F.faults files.new)) }
     {
         let mut at = 0;
         while let Some(end) = line_end(piece, at) {
             self.gather(&piece[at..end]);
-            self.end_line(files, out)?;
+            self.end_line(strict, files, out)?;
             at = end + 1;
         }
         self.gather(&piece[at..]);
@@ -160,27 +203,50 @@ impl Console {
     }
 
     /// Answers the last line, behind which no LF stands.
+    ///
+    /// # Errors
+    /// The status of a run that ends at its reply.
     pub(crate) fn finish<F: Store, K: Sink>(
         &mut self,
+        strict: bool,
         files: &mut F,
         out: &mut K,
-    ) -> Result<(), Failed>
-        ensures ok { (held : Known) (before : Stored) (taken : List ℕ) → Progress held before taken
+    ) -> Result<(), Status>
+        ensures ok { (held : Known) (before : Stored) (taken : List ℕ)
+            → Progress strict held before taken
             (K.held out.old) (stored (F.files files.old) (F.faults files.old))
             self.old.session self.old.line.items
-            → OnOk result (Answered before held (lines_of taken)
+            → OnOk result (Answered strict before held (lines_of taken)
             (stored (F.files files.new) (F.faults files.new)) (K.held out.new)) }
-        ensures err { (held : Known) (before : Stored) (taken : List ℕ) → Progress held before taken
+        ensures err { (held : Known) (before : Stored) (taken : List ℕ)
+            → Progress strict held before taken
             (K.held out.old) (stored (F.files files.old) (F.faults files.old))
             self.old.session self.old.line.items
-            → OnErr result (Broken held before taken
+            → IfErr result (λ status. Broken strict status held before taken
             (K.held out.new) (stored (F.files files.new) (F.faults files.new))) }
         ensures told { StaysTold (K.held out.old) (K.held out.new) }
-        ensures cause { HasCause (K.faults out.old) (K.faults out.new) result }
+        ensures later { K.faults out.old ≤ K.faults out.new }
+        ensures cause { IfErr result (λ status. status ≡ Status.WriteFault
+            → Rose (K.faults out.old) (K.faults out.new)) }
         ensures store { StaysStored (stored (F.files files.old) (F.faults files.old))
             (stored (F.files files.new) (F.faults files.new)) }
     {
-        self.end_line(files, out)
+        self.end_line(strict, files, out)
+    }
+}
+
+/// The status with which a run ends behind a reply, if it does.
+fn end_behind(strict: bool, reply: &Reply) -> Option<Status>
+    ensures end { result ≡ end_of strict (Some reply.now) }
+    ensures refused { IfSome result IsRefusal }
+{
+    if !strict {
+        return None;
+    }
+    match reply {
+        Reply::Refused(Refusal::Memory) => Some(Status::MemoryRefused),
+        Reply::Refused(_) => Some(Status::Refused),
+        _ => None,
     }
 }
 

@@ -3,8 +3,11 @@
 
 mod console;
 mod top;
+mod words;
 
 pub use top::{SCRIPT_LIMIT, Status, run};
 
+#[cfg(test)]
+mod file_tests;
 #[cfg(test)]
 mod tests;

@@ -1,5 +1,5 @@
 //! What a run writes and answers, on small scripts and at its limits.
-ghost use Rattle.std.specs.Prelude.{◌<◌, None};
+ghost use Rattle.std.specs.Prelude.{◌<◌, None, length};
 
 use crate::{Status, run};
 use leda_edge::{Failed, FileStore, MemSink, MemSource, Source, SureSink, SureSource};
@@ -151,20 +151,65 @@ fn answers_each_command(rt: HostRuntime) -> Result<(), Fail> {
     Ok(())
 }
 
-#[test]
-fn refuses_a_second_word(rt: HostRuntime) -> Result<(), Fail> {
-    let mut source = SureSource::new(Vec::from_slice(rt.alloc(), b"node\n")?);
+/// Runs a script by these words, and gives the status and the bytes written.
+fn run_by(rt: &HostRuntime, words: &[&str], script: &str) -> Result<(Status, MemSink), Fail>
+    requires { 0 < length words.now }
+{
+    let mut source = SureSource::new(Vec::from_slice(rt.alloc(), script.as_bytes())?);
     let mut sink = MemSink::new(rt.alloc(), 64, Vec::new(rt.alloc()))?;
-    let mut files = FileStore::new(&rt);
-    let ended = run(
-        rt.alloc(),
-        &["leda", "--fast"],
-        &mut source,
-        &mut files,
-        &mut sink,
-    );
-    assert_eq!(rt; ended, Status::Words);
-    assert_eq!(rt; sink.bytes(), b"".as_slice());
+    let mut files = FileStore::new(rt);
+    let ended = run(rt.alloc(), words, &mut source, &mut files, &mut sink);
+    Ok((ended, sink))
+}
+
+#[test]
+fn refuses_other_words(rt: HostRuntime) -> Result<(), Fail> {
+    for word in [
+        "--fast",
+        "--help",
+        "-h",
+        "--version",
+        "-V",
+        "--strict=yes",
+        "--stric",
+        "strict",
+        "-",
+        "",
+    ] {
+        let (ended, sink) = run_by(&rt, &["leda", word], "node\n")?;
+        assert_eq!(rt; ended, Status::Words, "by {word:?}");
+        assert_eq!(rt; sink.bytes(), b"".as_slice());
+    }
+    for words in [["leda", "--strict", "--strict"], ["leda", "--", "--strict"]] {
+        let (ended, _) = run_by(&rt, &words, "node\n")?;
+        assert_eq!(rt; ended, Status::Words, "by {words:?}");
+    }
+    let (ended, sink) = run_by(&rt, &["leda", "--"], "node x\nnode\n")?;
+    assert_eq!(rt; ended, Status::Done);
+    assert_eq!(rt; sink.bytes(), b"! syntax 6\n= n1\n".as_slice());
+    Ok(())
+}
+
+#[test]
+fn a_strict_run_ends_at_the_first_refusal(rt: HostRuntime) -> Result<(), Fail> {
+    let rows = [
+        (
+            "node\nnode x\nnode\n",
+            "= n1\n! syntax 6\n",
+            Status::Refused,
+        ),
+        ("node\nout n2", "= n1\n! unknown n2\n", Status::Refused),
+        ("load nowhere\nnode\n", "! absent\n", Status::Refused),
+        ("# a comment\n\nnode\n", "= n1\n", Status::Done),
+    ];
+    for (script, replies, status) in rows {
+        let (ended, sink) = run_by(&rt, &["leda", "--strict"], script)?;
+        assert_eq!(rt; ended, status, "after {script:?}");
+        assert_eq!(rt; sink.bytes(), replies.as_bytes(), "after {script:?}");
+    }
+    let (ended, sink) = run_by(&rt, &["leda"], "node x\nnode\n")?;
+    assert_eq!(rt; ended, Status::Done);
+    assert_eq!(rt; sink.bytes(), b"! syntax 6\n= n1\n".as_slice());
     Ok(())
 }
 

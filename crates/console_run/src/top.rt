@@ -1,13 +1,16 @@
 //! The top call: a script is read from a source, and its replies are written to a sink.
-ghost use Rattle.std.specs.Prelude.{◌≡◌, ◌≢◌, ◌<◌, ◌≤◌, ◌↔◌, [], length, OnOk, IfErr};
+ghost use Rattle.std.specs.Prelude.{◌≡◌, ◌≢◌, ◌⊎◌, ◌<◌, ◌≤◌, [], length, OnOk, IfErr};
+ghost use Rattle.clap.specs.Walk.{texts};
 ghost use Rattle.leda_edge.specs.Causes.{Rose};
 ghost use Rattle.leda_edge.specs.Parts.{StaysTold};
 ghost use Rattle.leda_edge.specs.Stored.{stored, StaysStored};
 ghost use Rattle.console_state.specs.State.{empty};
+ghost use Rattle.console_run.specs.CommandLine.{AreTaken, is_strict};
 ghost use Rattle.console_run.specs.Progress.{ReadWhole, IsEarly};
 ghost use Rattle.console_run.specs.Ends.{Ends, IsUnbegun, outside};
 
 use crate::console::Console;
+use crate::words::{WordsFault, asks_strict};
 use leda_edge::{Failed, Sink, Source, Store};
 use std::alloc::Global;
 
@@ -22,6 +25,8 @@ const READ_ROOM: usize = 65_536;
 pub enum Status {
     /// The script was read to its end, and every reply was written.
     Done = 0,
+    /// The run is strict, and a command was refused. The reply to it is the last one.
+    Refused = 1,
     /// The words of the command line are refused. Nothing was read or written.
     Words = 2,
     /// A read failed. The lines that were read whole before it are answered.
@@ -33,12 +38,15 @@ pub enum Status {
     /// The script has more than 1,073,741,824 bytes. The lines that ended within so many are
     /// answered.
     TooLong = 6,
+    /// The run is strict, and there was no memory for a command or for its reply. The reply to it
+    /// is the last one.
+    MemoryRefused = 7,
 }
 
 /// Runs a script: one reply for each command is written, in order, before the next line is run.
 ///
-/// `words` are the words of the command line, of which the first is the program's name; there is to
-/// be no other.
+/// `words` are the words of the command line, of which the first is the program's name. They are
+/// taken as `leda [--strict]`. With `--strict` the run ends behind the first refusal.
 pub fn run<S: Source, F: Store, K: Sink>(
     alloc: Global,
     words: &[&str],
@@ -48,7 +56,7 @@ pub fn run<S: Source, F: Store, K: Sink>(
 ) -> Status
     requires { 0 < length words.now }
     // What was read, what was written and what the files hold.
-    ensures ends { Ends result
+    ensures ends { Ends (is_strict (texts words.now)) result
         (outside (S.left script.old)
         (stored (F.files files.old) (F.faults files.old)) (K.held out.old))
         (outside (S.left script.new)
@@ -56,7 +64,9 @@ pub fn run<S: Source, F: Store, K: Sink>(
     // A run that doesn't begin touches nothing, whether it is told or not.
     ensures unbegun { IsUnbegun result
         → (script.new ≡ script.old) × (files.new ≡ files.old) × (out.new ≡ out.old) }
-    ensures words { (result ≡ Status.Words) ↔ (1 < length words.now) }
+    ensures words { result ≡ Status.Words → AreTaken (texts words.now) → ⊥ }
+    ensures taken { (result ≡ Status.Words) ⊎ (result ≡ Status.NoMemory)
+        ⊎ AreTaken (texts words.now) }
     ensures read { result ≡ Status.ReadFault → Rose (S.faults script.old) (S.faults script.new) }
     ensures write { result ≡ Status.WriteFault → Rose (K.faults out.old) (K.faults out.new) }
     ensures reads { S.faults script.old ≤ S.faults script.new }
@@ -66,20 +76,23 @@ pub fn run<S: Source, F: Store, K: Sink>(
     ensures store { StaysStored (stored (F.files files.old) (F.faults files.old))
         (stored (F.files files.new) (F.faults files.new)) }
 {
-    if words.len() > 1 {
-        return Status::Words;
-    }
+    let strict = match asks_strict(alloc, words) {
+        Ok(strict) => strict,
+        Err(WordsFault::Refused) => return Status::Words,
+        Err(WordsFault::NoMemory) => return Status::NoMemory,
+    };
     let Ok(mut console) = Console::new(alloc) else {
         return Status::NoMemory;
     };
     let Ok(mut room) = vec![in alloc; 0; READ_ROOM] else {
         return Status::NoMemory;
     };
-    pump(&mut console, script, files, out, &mut room)
+    pump(strict, &mut console, script, files, out, &mut room)
 }
 
 /// Answers the lines of the script, and says how that ended.
 fn pump<S: Source, F: Store, K: Sink>(
+    strict: bool,
     console: &mut Console,
     script: &mut S,
     files: &mut F,
@@ -89,7 +102,7 @@ fn pump<S: Source, F: Store, K: Sink>(
     requires room { 0 < length room.old }
     requires session { console.old.session ≡ empty }
     requires line { console.old.line.items ≡ [] }
-    ensures ends { Ends result
+    ensures ends { Ends strict result
         (outside (S.left script.old)
         (stored (F.files files.old) (F.faults files.old)) (K.held out.old))
         (outside (S.left script.new)
@@ -105,12 +118,12 @@ fn pump<S: Source, F: Store, K: Sink>(
     ensures store { StaysStored (stored (F.files files.old) (F.faults files.old))
         (stored (F.files files.new) (F.faults files.new)) }
 {
-    if let Err(status) = read_script(console, script, files, out, room) {
+    if let Err(status) = read_script(strict, console, script, files, out, room) {
         return status;
     }
-    match console.finish(files, out) {
+    match console.finish(strict, files, out) {
         Ok(()) => Status::Done,
-        Err(Failed) => Status::WriteFault,
+        Err(status) => status,
     }
 }
 
@@ -119,6 +132,7 @@ fn pump<S: Source, F: Store, K: Sink>(
 /// # Errors
 /// The status of a run that ends before the script does.
 fn read_script<S: Source, F: Store, K: Sink>(
+    strict: bool,
     console: &mut Console,
     script: &mut S,
     files: &mut F,
@@ -128,12 +142,12 @@ fn read_script<S: Source, F: Store, K: Sink>(
     requires room { 0 < length room.old }
     requires session { console.old.session ≡ empty }
     requires line { console.old.line.items ≡ [] }
-    ensures whole { OnOk result (ReadWhole
+    ensures whole { OnOk result (ReadWhole strict
         (S.left script.old) (stored (F.files files.old) (F.faults files.old)) (K.held out.old)
         (S.left script.new) (stored (F.files files.new) (F.faults files.new)) (K.held out.new)
         console.new.session console.new.line.items) }
     ensures ends { IfErr result (λ status.
-        Ends status
+        Ends strict status
         (outside (S.left script.old)
         (stored (F.files files.old) (F.faults files.old)) (K.held out.old))
         (outside (S.left script.new)
@@ -159,9 +173,7 @@ fn read_script<S: Source, F: Store, K: Sink>(
         if count == 0 {
             return Ok(());
         }
-        if console.feed(files, out, &room[..count]).is_err() {
-            return Err(Status::WriteFault);
-        }
+        console.feed(strict, files, out, &room[..count])?;
         taken += count;
     }
     match script.read(room) {

@@ -7,7 +7,7 @@ use Rattle.console_run.proofs.top.read_script.Given as goal
 abbrev pub invariant-loop-taken : goal.invariant-loop-taken
 invariant-loop-taken g l =
     (l.taken ≤ 1073741824)
-    × Pumped (g.S.Source.left l.initial.script)
+    × Pumped l.strict (g.S.Source.left l.initial.script)
     (stored (g.F.Store.files l.initial.files) (g.F.Store.faults l.initial.files))
     (g.K.Sink.held l.initial.out)
     (g.S.Source.left l.script) (stored (g.F.Store.files l.files) (g.F.Store.faults l.files))

@@ -9,10 +9,11 @@ abbrev pub invariant-loop-end : goal.invariant-loop-end
 invariant-loop-end g l =
     (l.at ≤ length l.piece)
     × ((held : Known) (before : Stored) (taken : List ℕ)
-    → Progress held before taken (g.K.Sink.held l.initial.out)
+    → Progress l.strict held before taken (g.K.Sink.held l.initial.out)
     (stored (g.F.Store.files l.initial.files) (g.F.Store.faults l.initial.files))
     l.initial.self.session l.initial.self.line.items
-    → Progress held before (taken ++ take l.at l.piece) (g.K.Sink.held l.out)
+    → Progress l.strict held before (taken ++ take l.at l.piece)
+    (g.K.Sink.held l.out)
     (stored (g.F.Store.files l.files) (g.F.Store.faults l.files)) l.self.session
     l.self.line.items)
     × StaysTold (g.K.Sink.held l.initial.out) (g.K.Sink.held l.out)

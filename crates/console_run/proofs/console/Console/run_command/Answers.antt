@@ -7,4 +7,5 @@ returns-else-put_text-clause-ran g c = record {
   step = lacking _ _ c.args.command c.apply-reply.result _ _ c.if-put_text.ensures.long
       c.apply-reply.ensures.quiet;
   text_is = c.if-put_text.ensures.text;
+  ended_is = c.end_behind.ensures.end;
 }
