@@ -31,6 +31,14 @@ fn run_over(alloc: Global, script: &str, files: &mut MemStore) -> Result<(Status
     Ok((ended, sink))
 }
 
+/// Whether the store has the file, and it holds this text.
+fn has_file(files: &MemStore, name: &str, text: &str) -> bool {
+    match files.file(name) {
+        Some(bytes) => bytes == text.as_bytes(),
+        None => false,
+    }
+}
+
 #[test]
 fn a_graph_is_loaded_and_saved(rt: HostRuntime) -> Result<(), Fail> {
     let mut files = store_of(rt.alloc(), &[("g", BY_HAND)], &[])?;
@@ -42,7 +50,7 @@ fn a_graph_is_loaded_and_saved(rt: HostRuntime) -> Result<(), Fail> {
         b"= 2 1\n= |{a}|b}|\n= 2 1\n= 2 1\n! dead n1\n= |{a}|b}|\n= 2 1\n".as_slice()
     );
     for (name, text) in [("h", WRITTEN), ("k", WRITTEN), ("g", BY_HAND)] {
-        assert_eq!(rt; files.file(name), Some(text.as_bytes()), "in {name}");
+        assert!(rt; has_file(&files, name, text), "the file {name}");
     }
     Ok(())
 }
@@ -244,7 +252,7 @@ fn a_failed_save_leaves_other_files(rt: HostRuntime) -> Result<(), Fail> {
     assert_eq!(rt; ended, Status::Done);
     assert_eq!(rt; sink.bytes(), b"= 2 1\n! store\n= 2 1\n= 2 1\n".as_slice());
     for (name, text) in [("g", BY_HAND), ("h", WRITTEN)] {
-        assert_eq!(rt; files.file(name), Some(text.as_bytes()), "in {name}");
+        assert!(rt; has_file(&files, name, text), "the file {name}");
     }
     Ok(())
 }
