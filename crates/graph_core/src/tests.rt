@@ -109,6 +109,10 @@ fn see_items(rt: &impl Abort, alloc: Global, g: &mut Graph) -> Result<(), Fail> 
     assert_eq!(rt; text.len(), 0);
     let text = g.node_label(nodes[0]).ok().ok_or("no label")?;
     assert_eq!(rt; text.len(), 0);
+    let text = g.live_edge_label(first).ok().ok_or("no label")?;
+    assert_eq!(rt; text.len(), 0);
+    let text = g.live_node_label(nodes[0]).ok().ok_or("no label")?;
+    assert_eq!(rt; text.len(), 0);
     let all = g.nodes(alloc).ok().ok_or("no nodes")?;
     assert_eq!(rt; all.as_slice(), nodes.as_slice());
     let edges = g.edges(alloc).ok().ok_or("no edges")?;

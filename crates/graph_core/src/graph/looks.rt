@@ -1,11 +1,11 @@
 //! Looks at nodes and edges.
-ghost use Rattle.std.specs.Prelude.{◌≡◌, Bool, [], ◌∷◌, Option, Some, None, option_map, IfOk, IfErr, OnOk};
+ghost use Rattle.std.specs.Prelude.{◌≡◌, Bool, [], ◌∷◌, Option, Some, None, option_map, IfOk, IfErr, OnOk, MatchResult};
 ghost use Rattle.leda_base.specs.declared.name.ItemName.TheVariants as names;
 ghost use Rattle.graph_state.specs.declared.item.EdgeItem.{EdgeItem};
 ghost use Rattle.graph_state.specs.declared.name.Element.{Element};
 ghost use Rattle.graph_state.specs.State.{source, target, node_label, edge_label, visible_out};
 ghost use Rattle.graph_state.specs.Names.{number, first_of, last_of};
-ghost use Rattle.graph_state.specs.Refusals.{AreVisible, RefusesLook};
+ghost use Rattle.graph_state.specs.Refusals.{AreVisible, RefusesLook, IsThere, IsGone};
 ghost use Rattle.graph_lists.specs.Heads.{IsMemberOf, Finds};
 ghost use Rattle.graph_core.specs.Looks.{IsEdgeOf, IsBehind, IsBefore, IsCyclicBehind, IsCyclicBefore};
 ghost use Rattle.graph_core.specs.Members.{HasEdge, MayHaveEdge};
@@ -14,7 +14,7 @@ use super::Graph;
 use super::walks::item_at;
 use crate::cell::EdgeCell;
 use graph_lists::{Lists, Member};
-use graph_state::{EdgeItem, LookRefusal, NodeItem};
+use graph_state::{EdgeItem, Gone, LookRefusal, NodeItem};
 use item_pool::Pool;
 
 /// The item of the edge that the member is of.
@@ -103,6 +103,40 @@ impl Graph {
     {
         let cell = self.see_edge(e)?;
         Ok(cell.label.as_slice())
+    }
+
+    /// The label of the node, hidden or not.
+    ///
+    /// # Errors
+    ///
+    /// `Dead` where the number was given and the node is gone, and `Unknown` where it wasn't given.
+    pub fn live_node_label(&self, v: NodeItem) -> Result<&[u8], Gone>
+        ensures { MatchResult result
+            (λ label. IsThere self.now (names.Node v.0.serial)
+            × (label.now ≡ node_label self.now v.0.serial))
+            (IsGone self.now (names.Node v.0.serial)) }
+    {
+        match self.nodes.get(v.0) {
+            Ok(cell) => Ok(cell.label.as_slice()),
+            Err(why) => Err(why),
+        }
+    }
+
+    /// The label of the edge, hidden or not.
+    ///
+    /// # Errors
+    ///
+    /// As those of `live_node_label`.
+    pub fn live_edge_label(&self, e: EdgeItem) -> Result<&[u8], Gone>
+        ensures { MatchResult result
+            (λ label. IsThere self.now (names.Edge e.0.serial)
+            × (label.now ≡ edge_label self.now e.0.serial))
+            (IsGone self.now (names.Edge e.0.serial)) }
+    {
+        match self.edges.get(e.0) {
+            Ok(cell) => Ok(cell.label.as_slice()),
+            Err(why) => Err(why),
+        }
     }
 
     /// The first edge of the visible out list, and none exactly where it is empty.
