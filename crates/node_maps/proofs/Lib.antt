@@ -1,0 +1,5 @@
+mod Hashed
+mod Rows
+mod Served
+mod Tables
+mod Unread
