@@ -13,7 +13,7 @@ use Rattle.blossom_lift.proofs.Views.{joins_turned, joins_end}
 use Rattle.blossom_lift.proofs.Paths.{even_odd}
 use Rattle.blossom_lift.proofs.Contracting.{inside_has, joins_only}
 
-bit_same : (x a : ℕ) → x ≡ a → cond {A = ℕ} (eqb x a) 1 0 ≡ 1
+pub bit_same : (x a : ℕ) → x ≡ a → cond {A = ℕ} (eqb x a) 1 0 ≡ 1
 bit_same x a e = ap (λ (b : Bool). cond {A = ℕ} b 1 0) (eq-eqb x a e)
 
 even_head : (a : ℕ) (vs : List ℕ) → 1 ≤ even_count a a vs
@@ -51,13 +51,13 @@ partner net m (e ∷ f ∷ es) a (d ∷ g ∷ vs) w x p t z = elim (cases_eq x a
 ]
 
 -- an edge has one other end
-other_same : (net : Net) (e a b c : ℕ) → Joins net e a b → Joins net e a c → b ≡ c
+pub other_same : (net : Net) (e a b c : ℕ) → Joins net e a b → Joins net e a c → b ≡ c
 other_same net e a b c j k = elim (joins_only net e a c b k (joins_end net e b a (joins_turned net e a b j))) [
   | inl h ↦ absurd (j.apart (sym h))
   | inr h ↦ h
 ]
 
-mate_is : (net : Net) (m : List ℕ) (f g y h e : ℕ) → IsMatching net m → 1 ≤ times f m → Joins net f y g → 1 ≤ times e m → Joins net e y h → g ≡ h
+pub mate_is : (net : Net) (m : List ℕ) (f g y h e : ℕ) → IsMatching net m → 1 ≤ times f m → Joins net f y g → 1 ≤ times e m → Joins net e y h → g ≡ h
 mate_is net m f g y h e m2 tf jf te je =
     let s = one_edge_at net y f e m m2 tf te (joins_end net f y g jf) (joins_end net e y h je) in
     other_same net f y g h jf (subst (λ (x : ℕ). Joins net x y h) (sym s) je)
@@ -65,7 +65,7 @@ mate_is net m f g y h e m2 tf jf te je =
 none_cases : (k : ℕ) → (k ≡ 0 → ⊥) → 1 ≤ k
 none_cases k h = elim (cases_eq k 0) [ inl e ↦ absurd (h e) | inr ne ↦ omega arith ]
 
-zero_or : (k : ℕ) → (1 ≤ k → ⊥) → k ≡ 0
+pub zero_or : (k : ℕ) → (1 ≤ k → ⊥) → k ≡ 0
 zero_or k h = elim (cases_eq k 0) [ inl e ↦ e | inr ne ↦ absurd (h (omega arith)) ]
 
 -- a node whose mate isn't at an even place isn't on the path either

@@ -3,3 +3,8 @@ pub mod Centrals
 pub mod Closings
 pub mod Augments
 pub mod Growths
+pub mod Forests
+pub mod Rounds
+pub mod Sizes
+pub mod Shrinks
+pub mod Sorts

@@ -1,2 +1,4 @@
 pub mod Closed
 pub mod Growth
+pub mod Forest
+pub mod Levels
