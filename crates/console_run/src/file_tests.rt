@@ -56,6 +56,22 @@ fn a_graph_is_loaded_and_saved(rt: HostRuntime) -> Result<(), Fail> {
 }
 
 #[test]
+fn an_array_covers_nothing_of_a_graph_that_is_loaded_later(rt: HostRuntime) -> Result<(), Fail> {
+    let mut files = store_of(rt.alloc(), &[("g", BY_HAND)], &[])?;
+    let script = "node\nnode_array a 5\nnode_map m 6\nload g\nget a n1\nget a n2\nset a n3 4\n\
+                  get m n3\nnode_array b labels\nedge_array c labels\nnode_array b 7\nget b n3\n";
+    let (ended, sink) = run_over(rt.alloc(), script, &mut files)?;
+    assert_eq!(rt; ended, Status::Done);
+    assert_eq!(rt;
+        sink.bytes(),
+        b"= n1\n=\n=\n= 2 1\n! dead n1\n! covered n2\n! covered n3\n= 6\n! label n2\n! label e1\n\
+          =\n= 7\n"
+            .as_slice()
+    );
+    Ok(())
+}
+
+#[test]
 fn a_failed_call_of_the_store_changes_nothing(rt: HostRuntime) -> Result<(), Fail> {
     let mut files = store_of(rt.alloc(), &[], &[1])?;
     let (ended, sink) = run_over(rt.alloc(), "node\nsave f\nsave f\n", &mut files)?;

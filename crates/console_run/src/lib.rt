@@ -10,4 +10,6 @@ pub use top::{SCRIPT_LIMIT, Status, run};
 #[cfg(test)]
 mod file_tests;
 #[cfg(test)]
+mod object_tests;
+#[cfg(test)]
 mod tests;

@@ -6,7 +6,11 @@ use leda_edge::{Failed, FileStore, MemSink, MemSource, Source, SureSink, SureSou
 use std::test::Fail;
 
 /// Runs a script whose reads give at most `piece` bytes.
-fn run_of(rt: &HostRuntime, script: &str, piece: usize) -> Result<(Status, MemSink), Fail>
+pub(crate) fn run_of(
+    rt: &HostRuntime,
+    script: &str,
+    piece: usize,
+) -> Result<(Status, MemSink), Fail>
     requires { 0 < piece }
 {
     let bytes = Vec::from_slice(rt.alloc(), script.as_bytes())?;

@@ -6,16 +6,19 @@ use Rattle.std.specs.Option.{option_or}
 use Rattle.std.specs.Bool.{MatchBool, OnTrue}
 use Rattle.leda_base.specs.declared.ItemName.{ItemName}
 use Rattle.leda_base.specs.declared.ItemName.TheVariants as items
+use Rattle.graph_state.specs.State.{GraphState}
+use Rattle.graph_state.specs.Refusals.{IsThere, AreVisible}
 use Rattle.script_text.specs.declared.argument.Arg.{Arg}
 use Rattle.script_text.specs.declared.argument.Arg.TheVariants as args
 use Rattle.script_text.specs.declared.form.Form.{Form}
 use Rattle.script_text.specs.declared.form.Form.TheVariants as forms
 use Rattle.script_text.specs.declared.word.Word.{Word}
 use Rattle.script_text.specs.Said.{Said}
-use Rattle.script_text.specs.Table.{forms_of}
+use Rattle.script_text.specs.Table.{forms_of, IsWhole}
 use Rattle.reply_text.specs.declared.refusal.Refusal.{Refusal}
 use Rattle.reply_text.specs.declared.refusal.Refusal.TheVariants as refusals
 use Rattle.object_store.specs.Met as objects
+use Rattle.object_store.specs.Served.{AreLive}
 use Rattle.console_state.specs.declared.order.Rule.{Rule}
 use Rattle.console_state.specs.declared.order.Rule.TheVariants as rules
 use Rattle.console_state.specs.declared.order.Standing.{Standing}
@@ -185,6 +188,51 @@ objects-cleared s read forms args word said again h f a w b =
     let met = all-objects-met s forms args one.0 three.0 six.0 in
     subst (λ all. objects.AreMet s.objects (forms_of word) all) (a ∙ sym b)
     (subst (λ forms. objects.AreMet s.objects forms args) (f ∙ ap forms_of (sym w)) met)
+
+-- what is met as visible is there
+is-there : (g : GraphState) (test : Bool) (x : ItemName)
+    → MatchBool test (AreVisible g (x ∷ [])) (IsThere g x) → IsThere g x
+is-there g true x h = h.0
+is-there g false x h = h
+
+-- arguments as many as the forms, each of which is met, are live
+all-live : (g : GraphState) (forms : List Form) (args : List Arg) → length args ≡ length forms
+    → AreMet g forms args → AreLive g args
+all-live g [] [] few h = tt
+all-live g [] (arg ∷ later) few h = absurd (omega (arith, few))
+all-live g (form ∷ forms) [] few h = tt
+all-live g (form ∷ forms) (args.Node v ∷ later) few h = (
+  is-there g (asks_visible form) (items.Node v) h.0,
+  all-live g forms later (omega (arith, few)) h.1,
+)
+all-live g (form ∷ forms) (args.Edge e ∷ later) few h = (
+  is-there g (asks_visible form) (items.Edge e) h.0,
+  all-live g forms later (omega (arith, few)) h.1,
+)
+all-live g (form ∷ forms) (args.Cell i ∷ later) few h = all-live g forms later (omega (arith, few)) h.1
+all-live g (form ∷ forms) (args.Name name ∷ later) few h =
+    all-live g forms later (omega (arith, few)) h.1
+all-live g (form ∷ forms) (args.Num number ∷ later) few h =
+    all-live g forms later (omega (arith, few)) h.1
+all-live g (form ∷ forms) (args.Label label ∷ later) few h =
+    all-live g forms later (omega (arith, few)) h.1
+all-live g (form ∷ forms) (args.Labels ∷ later) few h = all-live g forms later (omega (arith, few)) h.1
+all-live g (form ∷ forms) (args.File file ∷ later) few h =
+    all-live g forms later (omega (arith, few)) h.1
+all-live g (form ∷ forms) (args.Mode mode ∷ later) few h =
+    all-live g forms later (omega (arith, few)) h.1
+all-live g (form ∷ forms) (args.Kept sort ∷ later) few h =
+    all-live g forms later (omega (arith, few)) h.1
+
+-- nothing stands in the way of the command, which is whole: what it names is live
+pub live-cleared : (s : State) (read : Word) (forms : List Form) (args : List Arg) (word : Word)
+    (said : Said) (again : List Arg) → None ≡ refusal_among s read forms args
+    → forms ≡ forms_of said.word → args ≡ said.args → word ≡ said.word → again ≡ said.args
+    → IsWhole said → AreLive s.graph again
+live-cleared s read forms args word said again h f a w b whole =
+    all-live s.graph (forms_of word) again
+    (ap length b ∙ whole.count ∙ ap (λ w. length (forms_of w)) (sym w))
+    (cleared s read forms args word said again h f a w b)
 
 -- where the kind isn't wrong, it is the one asked for
 kind-is : (asked directed : Bool) → cond (asked && not directed) (Some refusals.Undirected) None ≡ None

@@ -4,3 +4,6 @@ pub mod Reaches
 pub mod Named
 pub mod Looks
 pub mod FileNames
+pub mod Later
+pub mod Serving
+pub mod Edited

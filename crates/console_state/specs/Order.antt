@@ -12,7 +12,7 @@ use Rattle.script_text.specs.declared.form.Sight.TheVariants as sights
 use Rattle.script_text.specs.declared.word.LookWord.TheVariants as looks
 use Rattle.script_text.specs.declared.word.QueryWord.TheVariants as queries
 use Rattle.script_text.specs.declared.word.Word.{Word}
-use Rattle.script_text.specs.declared.word.Word.TheVariants.{Edit, Look, File, Object, Query}
+use Rattle.script_text.specs.declared.word.Word.TheVariants.{Edit, Look, File, Object, Value, Query}
 use Rattle.script_text.specs.Said.{Said}
 use Rattle.script_text.specs.Table.{forms_of}
 use Rattle.reply_text.specs.declared.refusal.ObjectName.TheVariants as objects
@@ -100,6 +100,7 @@ asks_directed (Look looks.FaceSucc) = true
 asks_directed (Look word) = false
 asks_directed (File word) = false
 asks_directed (Object word) = false
+asks_directed (Value word) = false
 asks_directed (Query queries.Reach) = true
 
 -- the graph is of the wrong kind

@@ -6,14 +6,16 @@ use Rattle.script_text.specs.declared.word.EditWord.{EditWord}
 use Rattle.script_text.specs.declared.word.LookWord.{LookWord}
 use Rattle.script_text.specs.declared.word.ObjectWord.{ObjectWord}
 use Rattle.script_text.specs.declared.word.QueryWord.{QueryWord}
+use Rattle.script_text.specs.declared.word.ValueWord.{ValueWord}
 use Rattle.script_text.specs.declared.word.Word.{Word}
-use Rattle.script_text.specs.declared.word.Word.TheVariants.{Edit, Look, File, Object, Query}
+use Rattle.script_text.specs.declared.word.Word.TheVariants.{Edit, Look, File, Object, Value, Query}
 use Rattle.script_text.specs.Said.{Said}
 use Rattle.script_text.specs.Table.{may_lack_memory}
 use Rattle.reply_text.specs.declared.refusal.Refusal.{Refusal}
 use Rattle.reply_text.specs.declared.reply.Reply.{Reply}
 use Rattle.reply_text.specs.Outcome.{Outcome, done, refused, LacksMemory, IsQuiet}
 use Rattle.object_store.specs.Commands.{objects_done}
+use Rattle.object_store.specs.Values.{ValuesDone}
 use Rattle.console_state.specs.State.{State, on_graph, on_objects}
 use Rattle.console_state.specs.Graph.{graph_edited}
 use Rattle.console_state.specs.Look.{Told, graph_looked}
@@ -48,6 +50,14 @@ pub record Yields (given : Option (Outcome State)) (f : Stored)
   pub outcome : given ≡ Some (s', reply)
   pub files : f' ≡ f
 
+-- a command on arrays and maps changes the objects as its word says, by the graph; nothing else
+-- changes
+pub record Values (word : ValueWord) (args : List Arg) (s : State) (f : Stored)
+    (reply : Reply) (s' : State) (f' : Stored) : Type 0 where
+  pub objects : ValuesDone word args s.graph s.objects reply s'.objects
+  pub graph : s'.graph ≡ s.graph
+  pub files : f' ≡ f
+
 -- the query is answered, and its answer is kept; nothing else changes
 pub record Asks (word : QueryWord) (args : List Arg) (s : State) (f : Stored)
     (reply : Reply) (s' : State) (f' : Stored) : Type 0 where
@@ -67,6 +77,7 @@ Does (Edit word) args s f reply s' f' = Yields (edited word args s) f reply s' f
 Does (Look word) args s f reply s' f' = Yields (looked word args s) f reply s' f'
 Does (File word) args s f reply s' f' = Exchanges word args s f reply s' f'
 Does (Object word) args s f reply s' f' = Yields (objects_changed word args s) f reply s' f'
+Does (Value word) args s f reply s' f' = Values word args s f reply s' f'
 Does (Query word) args s f reply s' f' = Asks word args s f reply s' f'
 
 -- the refusal, if there is one, or else what the command does

@@ -287,6 +287,6 @@ fn asks_directed(word: Word) -> bool
 {
     match word {
         Word::Look(LookWord::InEdges | LookWord::FaceSucc) | Word::Query(QueryWord::Reach) => true,
-        Word::Edit(_) | Word::Look(_) | Word::File(_) | Word::Object(_) => false,
+        Word::Edit(_) | Word::Look(_) | Word::File(_) | Word::Object(_) | Word::Value(_) => false,
     }
 }

@@ -8,6 +8,8 @@ ghost use Rattle.script_text.specs.declared.word.QueryWord.TheVariants as querie
 ghost use Rattle.script_text.specs.declared.word.Word.TheVariants as words;
 ghost use Rattle.script_text.specs.Table.{forms_of, may_lack_memory, IsWhole};
 ghost use Rattle.object_store.specs.Met.{AreMet as ObjectsAreMet};
+ghost use Rattle.object_store.specs.Served.{AreLive};
+ghost use Rattle.object_store.specs.Values.{ValuesDone};
 ghost use Rattle.reply_text.specs.Text.{IsNamed, IsShort};
 ghost use Rattle.reply_text.specs.Outcome.{LacksMemory, IsQuiet};
 ghost use Rattle.console_state.specs.State.{empty};
@@ -30,7 +32,9 @@ use leda_base::{ItemName, NoMemory, Row};
 use leda_edge::Store;
 use object_store::Objects;
 use reply_text::{Answer, ObjectName, Refusal, Reply};
-use script_text::{Arg, Command, EditWord, Kinds, LookWord, ObjectWord, QueryWord, Word};
+use script_text::{
+    Arg, Command, EditWord, Kinds, LookWord, ObjectWord, QueryWord, ValueWord, Word,
+};
 use std::alloc::Global;
 use std::marker::Model;
 
@@ -45,9 +49,8 @@ pub struct Session {
 }
 
 impl Model for Session {
-    ghost use Rattle.std.specs.Prelude.{IfSome};
     ghost use Rattle.console_state.specs.State.{State, session_code};
-    ghost use Rattle.console_state.specs.Shown.{IsShown};
+    ghost use Rattle.console_state.specs.Shown.{IsSound};
 
     ghost Value = { State };
 
@@ -55,7 +58,7 @@ impl Model for Session {
 
     ghost view = { λ a. record { graph = a.graph; objects = a.objects } };
 
-    ghost invariant = { λ a. IfSome a.shown (IsShown a.graph) };
+    ghost invariant = { λ a. IsSound a.graph a.objects a.shown };
 }
 
 impl Session {
@@ -100,6 +103,7 @@ impl Session {
             Word::Look(word) => self.look(word, command.args()),
             Word::File(word) => self.exchange(word, command.args(), files),
             Word::Object(word) => self.change_objects(word, command.args()),
+            Word::Value(word) => self.change_values(word, command.args()),
             Word::Query(word) => self.query(word, command.args()),
         }
     }
@@ -150,6 +154,20 @@ impl Session {
         ensures quiet { IsQuiet (may_lack_memory (Word.Object word)) self.old result self.new }
     {
         self.objects.apply(word, args)
+    }
+
+    /// A command on arrays and maps that nothing stands in the way of.
+    fn change_values(&mut self, word: ValueWord, args: &[Arg]) -> Reply
+        requires whole { IsWhole (record { word = Word.Value word; args = args.now }) }
+        requires met { ObjectsAreMet self.old.objects (forms_of (Word.Value word)) args.now }
+        requires live { AreLive self.old.graph args.now }
+        ensures does { LacksMemory (may_lack_memory (Word.Value word)) self.old result self.new
+            ⊎ ValuesDone word args.now self.old.graph self.old.objects result self.new.objects }
+        ensures graph { self.new.graph ≡ self.old.graph }
+        ensures named { IsNamed result }
+        ensures short { IsShort result }
+    {
+        self.objects.apply_table(&self.graph, word, args)
     }
 
     /// The reply to a query that nothing stands in the way of.

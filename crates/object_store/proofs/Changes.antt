@@ -18,6 +18,7 @@ use Rattle.object_store.specs.declared.change.Change.{Change}
 use Rattle.object_store.specs.declared.change.Change.TheVariants.{Write, Move, Turn, Lower}
 use Rattle.object_store.specs.declared.entrance.End.{End}
 use Rattle.object_store.specs.declared.entrance.End.TheVariants as ends
+use Rattle.object_store.specs.declared.entrance.Spot.TheVariants.{Front, Rear}
 use Rattle.object_store.specs.declared.object.Entry.{Entry}
 use Rattle.object_store.specs.declared.object.Object.{Object as Held}
 use Rattle.object_store.specs.declared.object.Object.TheVariants as held
@@ -26,7 +27,7 @@ use Rattle.object_store.specs.State.{Cell}
 use Rattle.object_store.specs.Cells.{head_of, inf_of, written}
 use Rattle.object_store.specs.Commands.{with_cells}
 use Rattle.object_store.specs.Inner.{Inner, inner, kind_of, list_cell, dict_cell, queue_cell, cells_in, seen}
-use Rattle.object_store.specs.Entrance.{with_end, at_end}
+use Rattle.object_store.specs.Entrance.{with_end}
 use Rattle.object_store.specs.Change.{Allows, IsChanged}
 use Rattle.object_store.specs.Kept.{Places, state_of, IsKept, Replaces}
 use Rattle.object_store.proofs.Entered.{list_value}
@@ -53,6 +54,7 @@ map_turned f (x ∷ xs) =
 pub list_written : (it : Item) (e old : Entry) (l t : Items Entry) → Assigns l t it.serial old e → IsChanged (Write it e) (held.List l) (held.List t)
 list_written it e old l t h = record {
   kind = refl;
+  values = refl;
   made = ap (λ (u : Items Entry). u.made) h.1;
   items = (
     (old.number, old.value ∷ []),
@@ -68,6 +70,7 @@ left s l = without_of list_cell s s l.pairs (keeps list_cell (λ p. refl) s l.pa
 pub list_moved_front : (it : Item) (l t : Items Entry) → MovesToFront l t it.serial → IsChanged (Move it ends.Front) (held.List l) (held.List t)
 list_moved_front it l t h = record {
   kind = refl;
+  values = refl;
   made = ap (λ (u : Items Entry). u.made) h.1.1;
   items = (
     (h.0.number, h.0.value ∷ []),
@@ -79,6 +82,7 @@ list_moved_front it l t h = record {
 pub list_moved_rear : (it : Item) (l t : Items Entry) → MovesToRear l t it.serial → IsChanged (Move it ends.Rear) (held.List l) (held.List t)
 list_moved_rear it l t h = record {
   kind = refl;
+  values = refl;
   made = ap (λ (u : Items Entry). u.made) h.1.1;
   items = (
     (h.0.number, h.0.value ∷ []),
@@ -90,7 +94,7 @@ list_moved_rear it l t h = record {
 }
 
 pub list_turned : (l t : Items Entry) → t.pairs ≡ reverse l.pairs → t.made ≡ l.made → IsChanged Turn (held.List l) (held.List t)
-list_turned l t pairs made = record { kind = refl; made = made; items = ap (map list_cell) pairs ∙ map_turned list_cell l.pairs }
+list_turned l t pairs made = record { kind = refl; values = refl; made = made; items = ap (map list_cell) pairs ∙ map_turned list_cell l.pairs }
 
 -- ---- dictionaries
 pub dict_written : (it : Item) (x old : Entry) (d t : DictOf Entry) (k : ℤ) → Allows (Write it x) (held.Dict d) → DictChanges d t it.serial k x old → IsChanged (Write it x) (held.Dict d) (held.Dict t)
@@ -100,6 +104,7 @@ dict_written it x old d t k allows h =
     let es = finmap.entries d.triples in
     record {
       kind = refl;
+      values = refl;
       made = ap (λ (u : DictOf Entry). u.made) h.after;
       items = (
         allows.0,
@@ -126,6 +131,7 @@ queue_there q s p x h = queue_value s q ∙ ap (λ o. option_map queue_holds o) 
 pub queue_written : (it : Item) (x old : Entry) (q t : Queued Entry) (p : ℤ) → QueueChanges q t it.serial p old p x → IsChanged (Write it x) (held.Queue q) (held.Queue t)
 queue_written it x old q t p h = record {
   kind = refl;
+  values = refl;
   made = h.made;
   items = ((old.number, p ∷ old.value ∷ []), queue_there q it.serial p old h.held.0, queue_put q t it.serial p old p x h);
 }
@@ -133,6 +139,7 @@ queue_written it x old q t p h = record {
 pub queue_lowered : (it : Item) (q t : Queued Entry) (p o : ℤ) (x : Entry) → QueueChanges q t it.serial o x p x → IsChanged (Lower it p) (held.Queue q) (held.Queue t)
 queue_lowered it q t p o x h = record {
   kind = refl;
+  values = refl;
   made = h.made;
   items = ((x.number, o ∷ x.value ∷ []), queue_there q it.serial o x h.held.0, queue_put q t it.serial o x p x h);
 }
@@ -196,8 +203,8 @@ module _ {X : Type 0} where
     distinct_moved apart = distinct_in (pairs_without s ps) qs (s, x) cut gone (distinct_without s ps apart)
 
 cut_end : (end : End) (p : Inner) (ps : List Inner) → Splits ps (with_end end p ps) p
-cut_end ends.Front p ps = splits (at_end ends.Front) p ps tt
-cut_end ends.Rear p ps = splits (at_end ends.Rear) p ps tt
+cut_end ends.Front p ps = splits Front p ps tt
+cut_end ends.Rear p ps = splits Rear p ps tt
 
 -- the same items, under the same numbers
 pub record SameList (xs ys : List Inner) : Type 0 where
@@ -269,4 +276,4 @@ module _ (ps qs : Places) (k : ℕ) (cells : Contents Place) (kept : IsKept ps c
   pub state_changed : state_of qs cells ≡ with_cells r.old.name (seen r.old.object) (cells_in r.new.object) (state_of ps cells)
   state_changed =
       ap (λ o. record { objects = o; made = cells.made }) (objects_now ps qs k r.old r.new r.was r.is r.name kept.apart)
-      ∙ ap (λ z. with_cells r.old.name (record { kind = z; cells = cells_in r.old.object }) (cells_in r.new.object) (state_of ps cells)) r.changed.kind
+      ∙ (λ j. with_cells r.old.name (record { kind = r.changed.kind j; cells = cells_in r.old.object; values = r.changed.values j }) (cells_in r.new.object) (state_of ps cells))

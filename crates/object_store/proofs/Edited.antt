@@ -1,16 +1,17 @@
 -- A container has changed: what its row says of it.
 use Rattle.std.proofs.Common.{◌≡◌, ℕ, true, false, List, [], ◌∷◌, map, Some, refl, sym, ap, ◌∙◌}
-use Rattle.std.specs.Prelude.{ℤ, slice_get, reverse}
+use Rattle.std.specs.Prelude.{ℤ, int_lt, slice_get, reverse}
 use Rattle.item_pool.specs.Contents.{Contents}
 use Rattle.item_list.specs.Items.{value_at, pairs_with, pairs_without}
 use Rattle.script_text.specs.declared.argument.Arg.TheVariants as args
 use Rattle.script_text.specs.declared.form.Kinds.{Kinds}
 use Rattle.script_text.specs.declared.form.Kinds.TheVariants as kinds
-use Rattle.reply_text.specs.declared.reply.Reply.TheVariants.{Line}
+use Rattle.reply_text.specs.declared.reply.Reply.TheVariants.{Line, Refused}
 use Rattle.reply_text.specs.declared.reply.ReplyLine.TheVariants.{Empty, Num}
-use Rattle.reply_text.specs.Outcome.{Outcome, done}
+use Rattle.reply_text.specs.declared.refusal.Refusal.TheVariants.{Larger}
+use Rattle.reply_text.specs.Outcome.{Outcome, done, refused}
 use Rattle.object_store.specs.declared.change.Change.{Change}
-use Rattle.object_store.specs.declared.change.Change.TheVariants.{Write, Move, Turn}
+use Rattle.object_store.specs.declared.change.Change.TheVariants.{Write, Move, Turn, Lower}
 use Rattle.object_store.specs.declared.entrance.End.{End}
 use Rattle.object_store.specs.declared.entrance.End.TheVariants as ends
 use Rattle.object_store.specs.declared.kind.ObjectKind.{ObjectKind}
@@ -25,26 +26,25 @@ use Rattle.object_store.specs.declared.slots.Named.{Named}
 use Rattle.script_text.specs.declared.word.ObjectWord.TheVariants as words
 use Rattle.object_store.specs.State.{Cell, Object, ObjectState}
 use Rattle.object_store.specs.Cells.{head_of, inf_of, written}
-use Rattle.object_store.specs.Commands.{objects_done, on_cell, with_cells}
+use Rattle.object_store.specs.Commands.{objects_done, on_cell, decrease, with_cells}
 use Rattle.object_store.specs.Views.{is_of, has_object}
 use Rattle.object_store.specs.Words.{read, reading_word, reading_kinds, writing_word, writing_kinds, moving_word}
 use Rattle.object_store.specs.Inner.{Inner, inner, kind_of, cell_in, cells_in, seen}
 use Rattle.object_store.specs.Entrance.{with_end}
 use Rattle.object_store.specs.Change.{Allows, IsChanged}
+use Rattle.object_store.specs.Look.{IsRead}
 use Rattle.object_store.specs.Kept.{Places, state_of, IsKept, Replaces}
 use Rattle.object_store.proofs.Changes.{map_turned, state_changed}
 use Rattle.object_store.proofs.Holders.{agrees}
 use Rattle.object_store.proofs.Leads.{CellAt, on_cell_there, on_object_there}
-use Rattle.object_store.proofs.Lists.{map_more}
+use Rattle.object_store.proofs.Lists.{map_more, cond_true, cond_false}
+use Rattle.object_store.proofs.ByKind.{list_kind, queue_kind}
+use Rattle.object_store.proofs.Ordered.{int_less}
+use Rattle.std.proofs.lemmas.Int.{by_lt_z}
 use Rattle.object_store.proofs.Pairs.{Agrees, with_of, without_of}
 
 some_same : {A : Type 0} (a b : A) → Some a ≡ Some b → a ≡ b
 some_same a b e = cc
-
-pub list_kind : (kind : ObjectKind) → is_of kinds.List kind ≡ true → kind ≡ sorts.List
-list_kind sorts.List is = refl
-list_kind sorts.Dict is = let no : false ≡ true = is in cc
-list_kind sorts.Queue is = let no : false ≡ true = is in cc
 
 -- the same of an object that is known to stand there
 pub cell_of : (ps : Places) (kinds : Kinds) (p : Place) (i : ℕ) (w : CellAt ps kinds p i) (n : Named) → slice_get ps p.slot ≡ Some (Some n) → w.object ≡ n
@@ -66,11 +66,15 @@ written_list : (kind : ObjectKind) (x : ℤ) (vs : List ℤ) → is_of kinds.Lis
 written_list sorts.List x vs is = refl
 written_list sorts.Dict x vs is = let no : false ≡ true = is in cc
 written_list sorts.Queue x vs is = let no : false ≡ true = is in cc
+written_list (sorts.Array sort) x vs is = let no : false ≡ true = is in cc
+written_list (sorts.Map sort) x vs is = let no : false ≡ true = is in cc
 
 written_other : (kind : ObjectKind) (x : ℤ) (vs : List ℤ) → is_of kinds.DictOrQueue kind ≡ true → written kind x vs ≡ head_of vs ∷ x ∷ []
 written_other sorts.List x vs is = let no : false ≡ true = is in cc
 written_other sorts.Dict x vs is = refl
 written_other sorts.Queue x vs is = refl
+written_other (sorts.Array sort) x vs is = let no : false ≡ true = is in cc
+written_other (sorts.Map sort) x vs is = let no : false ≡ true = is in cc
 
 -- what an item holds once this is written to it
 abbrev rewritten : Writing → ℤ → List ℤ → List ℤ
@@ -143,6 +147,36 @@ module _ (ps qs : Places) (cells : Contents Place) (kept : IsKept ps cells) (p :
       (ap (map cell_in) h.2 ∙ ended end p.item.serial h.0 (pairs_without p.item.serial (inner r.old.object))
       ∙ (λ j. with_end end (cell j) (without_of cell_in p.item.serial i (inner r.old.object) (agree kinds.List w) j)))
       refl
+
+  -- what is read of it as its priority is that
+  pub priority_read : (w : CellAt ps kinds.Queue p i) (n : Named) (x : ℤ) → slice_get ps p.slot ≡ Some (Some n) → IsRead readings.Priority p.item.serial n.object x → x ≡ head_of w.cell.1
+  priority_read w n x at got =
+      let same : w.cell ≡ got.0 = some_same w.cell got.0 (sym w.has ∙ ap (λ (m : Named). value_at p.item.serial (inner m.object)) (cell_of ps kinds.Queue p i w n at) ∙ got.1) in
+      got.2 ∙ ap (λ (z : Cell). head_of z.1) (sym same)
+
+  pub allows_lower : (w : CellAt ps kinds.Queue p i) (v : ℤ) → int_lt (head_of w.cell.1) v ≡ false → Allows (Lower p.item v) w.object.object
+  allows_lower w v most = (w.cell, w.has, queue_kind (kind_of w.object.object) w.kind, by_lt_z (head_of w.cell.1) v (λ larger. let no : true ≡ false = sym (int_less (head_of w.cell.1) v larger) ∙ most in cc) (λ le. le))
+
+  pub lower_row : (v : ℤ) (r : Replaces ps qs p.slot (IsChanged (Lower p.item v))) (there : CellAt ps kinds.Queue p i) → int_lt (head_of there.cell.1) v ≡ false
+      → objects_done words.Decrease (args.Cell i ∷ args.Num v ∷ []) (state_of ps cells) ≡ Some (state_of qs cells, Line Empty)
+  lower_row v r there most =
+      let w = moved_to ps kinds.Queue p i there r.old r.was in
+      let h = r.changed.items in
+      let one : h.0 ≡ w.cell = some_same h.0 w.cell (sym h.1 ∙ w.has) in
+      let s : ObjectState = state_of ps cells in
+      let cs = pairs_with i (v ∷ inf_of w.cell.1 ∷ []) (cells_in r.old.object) in
+      row_given kinds.Queue (Lower p.item v) r w (λ x o vs. decrease i x o vs v s) cs refl
+      (ap (map cell_in) h.2
+      ∙ with_of cell_in p.item.serial i (h.0.0, v ∷ inf_of h.0.1 ∷ []) (v ∷ inf_of w.cell.1 ∷ []) (λ j. ((ap (λ (c : Cell). c.0) one ∙ w.is) j, v ∷ inf_of (one j).1 ∷ [])) (inner r.old.object) (agree kinds.Queue w))
+      (cond_false (int_lt (head_of w.cell.1) v) (refused s (Larger (head_of w.cell.1))) (done (with_cells r.old.name (seen r.old.object) cs s) Empty) most)
+
+  -- a larger priority is refused
+  pub larger_row : (v : ℤ) (w : CellAt ps kinds.Queue p i) → int_lt (head_of w.cell.1) v ≡ true
+      → objects_done words.Decrease (args.Cell i ∷ args.Num v ∷ []) (state_of ps cells) ≡ Some (state_of ps cells, Refused (Larger (head_of w.cell.1)))
+  larger_row v w larger =
+      let s : ObjectState = state_of ps cells in
+      on_cell_there ps cells kept kinds.Queue i p w (λ x o vs. decrease i x o vs v s)
+      ∙ ap Some (cond_true (int_lt (head_of w.cell.1) v) (refused s (Larger (head_of w.cell.1))) (done (with_cells w.object.name (seen w.object.object) (pairs_with i (v ∷ inf_of w.cell.1 ∷ []) (cells_in w.object.object)) s) Empty) larger)
 
   pub read_row : (what : Reading) (w : CellAt ps (reading_kinds what) p i) → objects_done (reading_word what) (args.Cell i ∷ []) (state_of ps cells) ≡ Some (state_of ps cells, Line (Num (read what w.cell.1)))
   read_row readings.Contents w = on_cell_there ps cells kept kinds.List i p w (λ x o v. done (state_of ps cells) (Num (head_of v)))

@@ -8,7 +8,8 @@ use Rattle.reply_text.specs.declared.reply.Reply.TheVariants.{Line}
 use Rattle.reply_text.specs.declared.reply.ReplyLine.TheVariants.{Name}
 use Rattle.reply_text.specs.Outcome.{done, unless}
 use Rattle.object_store.specs.declared.entrance.Entrance.{Entrance}
-use Rattle.object_store.specs.declared.entrance.Entrance.TheVariants.{Front, Rear, Before, Behind}
+use Rattle.object_store.specs.declared.entrance.Entrance.TheVariants.{At, Key, Priority}
+use Rattle.object_store.specs.declared.entrance.Spot.TheVariants.{Front, Rear, Before, Behind}
 use Rattle.object_store.specs.declared.object.Entry.{Entry}
 use Rattle.object_store.specs.declared.object.Object.{Object as Held}
 use Rattle.object_store.specs.declared.object.Object.TheVariants as held
@@ -18,22 +19,25 @@ use Rattle.object_store.specs.State.{Cell, ObjectState}
 use Rattle.object_store.specs.Commands.{with_cells, full_cell, enters}
 use Rattle.object_store.specs.Inner.{inner, list_cell, seen}
 use Rattle.object_store.specs.Kept.{Places, state_of}
-use Rattle.object_store.specs.Entrance.{Fits, IsThere}
+use Rattle.object_store.specs.Entrance.{Fits, IsNamedThere}
 use Rattle.object_store.proofs.Pairs.{value_of, keeps}
 
 -- what a list has under a serial, the object has
 pub list_value : (s : ℕ) (ps : List (ℕ × Entry)) (x : Entry) → value_at s ps ≡ Some x → value_at s (inner (held.List (record { pairs = ps; made = 0 }))) ≡ Some (x.number, x.value ∷ [])
 list_value s ps x e = value_of list_cell s s (λ (x : Entry). (x.number, x.value ∷ [])) (λ p. refl) ps (keeps list_cell (λ p. refl) s ps) ∙ ap (λ o. option_map (λ (x : Entry). (x.number, x.value ∷ [])) o) e
 
-pub fits_there : (entrance : Entrance) (o : Held) → Fits entrance o → IsThere entrance (inner o)
-fits_there Front (held.List l) h = tt
-fits_there Rear (held.List l) h = tt
-fits_there (Before it) (held.List l) h = ((h.0.number, h.0.value ∷ []), list_value it.serial l.pairs h.0 h.1)
-fits_there (Behind it) (held.List l) h = ((h.0.number, h.0.value ∷ []), list_value it.serial l.pairs h.0 h.1)
-fits_there entrance (held.Dict d) h = absurd h
-fits_there entrance (held.Queue q) h = absurd h
+pub fits_there : (entrance : Entrance) (o : Held) → Fits entrance o → IsNamedThere entrance (inner o)
+fits_there (At Front) (held.List l) h = tt
+fits_there (At Rear) (held.List l) h = tt
+fits_there (At (Before it)) (held.List l) h = ((h.0.number, h.0.value ∷ []), list_value it.serial l.pairs h.0 h.1)
+fits_there (At (Behind it)) (held.List l) h = ((h.0.number, h.0.value ∷ []), list_value it.serial l.pairs h.0 h.1)
+fits_there (At spot) (held.Dict d) h = absurd h
+fits_there (At spot) (held.Queue q) h = absurd h
+fits_there (At spot) (held.Values v) h = absurd h
+fits_there (Key k) o h = tt
+fits_there (Priority r) o h = tt
 
-pub fits_old : (entrance : Entrance) (ps : Places) (k : ℕ) (n m : Named) → slice_get ps k ≡ Some (Some n) → slice_get ps k ≡ Some (Some m) → Fits entrance n.object → IsThere entrance (inner m.object)
+pub fits_old : (entrance : Entrance) (ps : Places) (k : ℕ) (n m : Named) → slice_get ps k ≡ Some (Some n) → slice_get ps k ≡ Some (Some m) → Fits entrance n.object → IsNamedThere entrance (inner m.object)
 fits_old entrance ps k n m a b fits =
     let both : Some (Some n) ≡ Some (Some m) = sym a ∙ b in
     let is : n ≡ m = cc in

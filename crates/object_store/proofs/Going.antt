@@ -38,6 +38,7 @@ list_has s o l is h none =
 pub list_leaves : (s : ℕ) (o : Held) (l t : Items Entry) (x : Entry) → o ≡ held.List l → ListRemoves l t s x → Leaves s o (held.List t)
 list_leaves s o l t x is h = subst (λ (p : Held). Leaves s p (held.List t)) (sym is) (record {
   kind = refl;
+  values = refl;
   made = ap (λ (u : Items Entry). u.made) h.1;
   inner = ap (λ (u : Items Entry). map list_cell u.pairs) h.1 ∙ without_of list_cell s s l.pairs (keeps list_cell (λ p. refl) s l.pairs);
 })
@@ -71,6 +72,7 @@ queue_tests s (e ∷ es) = (same_key s e.0, queue_tests s es)
 pub queue_leaves : (s : ℕ) (o : Held) (q t : Queued Entry) (p : ℤ) (x : Entry) → o ≡ held.Queue q → QueueRemoves q t s p x → Leaves s o (held.Queue t)
 queue_leaves s o q t p x is h = subst (λ (w : Held). Leaves s w (held.Queue t)) (sym is) (record {
   kind = refl;
+  values = refl;
   made = h.made;
   inner =
       ap (λ m. map queue_cell (finmap.entries m)) h.live
@@ -168,6 +170,7 @@ module _ (d : DictOf Entry) (s : ℕ) (k : ℤ) (x : Entry) (held_there : finmap
 pub dict_leaves : (s : ℕ) (o : Held) (d t : DictOf Entry) (k : ℤ) (x : Entry) → o ≡ held.Dict d → DictRemoves d t s k x → Leaves s o (held.Dict t)
 dict_leaves s o d t k x is h = subst (λ (w : Held). Leaves s w (held.Dict t)) (sym is) (record {
   kind = refl;
+  values = refl;
   made = ap (λ (u : DictOf Entry). u.made) h.after;
   inner =
       ap (λ (u : DictOf Entry). map dict_cell (finmap.entries u.triples)) h.after

@@ -1,10 +1,10 @@
 -- The items of a dictionary in the order of the keys: which is first, last, next and before.
-use Rattle.std.proofs.Common.{◌≡◌, ℕ, ◌≢◌, true, false, List, [], ◌∷◌, ◌++◌, map, Option, Some, None, refl, sym, ap, subst, ◌∙◌, ◌⊎◌, inl, inr, ⊎_elim, arith}
+use Rattle.std.proofs.Common.{◌≡◌, ℕ, ◌≢◌, List, [], ◌∷◌, ◌++◌, map, Option, Some, None, refl, sym, ap, subst, ◌∙◌, ◌⊎◌, inl, inr, ⊎_elim, arith}
 use Rattle.std.proofs.lemmas.Int.{ints}
-use Rattle.std.specs.Prelude.{ℤ, ◌<ℤ◌, ◌≤ℤ◌, ⊤, T}
+use Rattle.std.specs.Prelude.{ℤ, ◌<ℤ◌, ◌≤ℤ◌, ⊤, T, option_map}
 use Rattle.std.specs.declared.cmp.Ordering.{Ordering}
 use Rattle.std.specs.declared.cmp.Ordering.TheVariants.{Less, Equal, Greater}
-use Rattle.std.specs.Ordering.{int_cmp, is_lt, eq_by_cmp, is_eq}
+use Rattle.std.specs.Ordering.{int_cmp, int_eq, is_lt, eq_by_cmp, is_eq}
 use Rattle.std.specs.Cmp.{int_cmp_total, int_ranked, tied_itself}
 use Rattle.std.specs.FinMap as finmap
 use Rattle.std.specs.FinMap.Entries.{find, is_sorted, below_all}
@@ -13,20 +13,18 @@ use Rattle.item_pool.specs.declared.pool.Item.{Item}
 use Rattle.item_ring.specs.RingLists.{IsDistinct, front, back}
 use Rattle.item_list.specs.Items.{serials, value_at}
 use Rattle.item_dict.specs.Contents.{Contents as DictOf, HasKey}
-use Rattle.object_store.specs.declared.kind.ObjectKind.TheVariants as sorts
 use Rattle.object_store.specs.declared.near.Near.{Near}
-use Rattle.object_store.specs.declared.near.Near.TheVariants.{First, Last, Behind, Before, RoundBehind, RoundBefore}
+use Rattle.object_store.specs.declared.near.Near.TheVariants.{First, Last, WithKey, Least, Behind, Before, RoundBehind, RoundBefore}
 use Rattle.object_store.specs.declared.object.Entry.{Entry}
 use Rattle.object_store.specs.declared.object.Object.TheVariants as held
 use Rattle.object_store.specs.State.{Cell}
 use Rattle.object_store.specs.Cells.{head_of}
 use Rattle.object_store.specs.Inner.{Inner, inner, dict_cell}
-use Rattle.object_store.specs.Near.{near_kinds, IsKeyed}
-use Rattle.object_store.specs.Views.{is_of}
+use Rattle.object_store.specs.Near.{IsKeyed}
 use Rattle.object_store.proofs.Going.{DictEntry, AllFound, all_found, both_front, both_rear}
 use Rattle.object_store.proofs.ItemsRead.{dict_at, dict_bare}
 use Rattle.object_store.proofs.Lists.{cond_true, cond_false}
-use Rattle.object_store.proofs.Standing.{IsSerial}
+use Rattle.object_store.proofs.Standing.{IsSerial, key_in}
 
 none_some : {A : Type 0} (a : A) → None ≡ Some a → ⊥
 none_some a e = cc
@@ -95,6 +93,25 @@ entry_held d e m =
 
 pub held_entry : (d : DictOf Entry) (k : ℤ) (v : ℕ × Entry) → finmap.get d.triples k ≡ Some v → Among (k, v) (finmap.entries d.triples)
 held_entry d k v h = among_found k v (finmap.entries d.triples) (sym (finmap.get-entries d.triples k) ∙ h)
+
+-- what has the key among the items
+key_of : (k : ℤ) (es : List DictEntry) → key_in k (map dict_cell es) ≡ option_map (λ (v : ℕ × Entry). dict_cell (k, v)) (find int_cmp k es)
+key_of k [] = refl
+key_of k (e ∷ es) =
+    let g : ℕ × Entry → Inner = λ v. dict_cell (k, v) in
+    ⊎_elim
+    (λ (is : k ≡ e.0).
+    cond_true (int_eq e.0 k) (Some (dict_cell e)) (key_in k (map dict_cell es)) (ap (λ z. int_eq z k) (sym is) ∙ ap is_eq (tied_itself int_cmp_total k))
+    ∙ ap (λ z. Some (dict_cell (z, e.1))) (sym is)
+    ∙ ap (λ v. option_map g v) (sym (cond_true (eq_by_cmp int_cmp k e.0) (Some e.1) (find int_cmp k es) (ap (λ z. eq_by_cmp int_cmp k z) (sym is) ∙ ap is_eq (tied_itself int_cmp_total k)))))
+    (λ (ne : k ≢ e.0).
+    cond_false (int_eq e.0 k) (Some (dict_cell e)) (key_in k (map dict_cell es)) (untied int_cmp_total finmap.int_cmp-IsAntisymmetric e.0 k (λ is. ne (sym is)))
+    ∙ key_of k es
+    ∙ ap (λ v. option_map g v) (sym (cond_false (eq_by_cmp int_cmp k e.0) (Some e.1) (find int_cmp k es) (untied int_cmp_total finmap.int_cmp-IsAntisymmetric k e.0 ne))))
+    (same_or_not int_cmp_total finmap.int_cmp-IsAntisymmetric k e.0)
+
+pub key_held : (d : DictOf Entry) (k : ℤ) → key_in k (inner (held.Dict d)) ≡ option_map (λ (v : ℕ × Entry). dict_cell (k, v)) (finmap.get d.triples k)
+key_held d k = key_of k (finmap.entries d.triples) ∙ ap (λ o. option_map (λ (v : ℕ × Entry). dict_cell (k, v)) o) (sym (finmap.get-entries d.triples k))
 
 -- ---- keys that rise
 abbrev pub IsAbove : ℤ → List DictEntry → Type 0
@@ -289,6 +306,9 @@ module _ (d : DictOf Entry) (apart : IsDistinct (serials (inner (held.Dict d))))
   keyed_serial Last None h = ap (λ xs. back (serials xs)) (sym (dict_bare d h))
   keyed_serial Last (Some it) h =
       greatest_last es rise (h.0, (it.serial, h.1.0.0)) (held_entry d h.0 (it.serial, h.1.0.0) h.1.0.1) (λ f m. h.1.1 f.1.0 f.0 (of_entry f m))
+  keyed_serial (WithKey k) None h = sym (ap (λ o. option_map (λ (x : Inner). x.0) o) (key_held d k ∙ ap (λ o. option_map (λ (v : ℕ × Entry). dict_cell (k, v)) o) h))
+  keyed_serial (WithKey k) (Some it) h = sym (ap (λ o. option_map (λ (x : Inner). x.0) o) (key_held d k ∙ ap (λ o. option_map (λ (v : ℕ × Entry). dict_cell (k, v)) o) h.1))
+  keyed_serial Least r h = absurd h
   keyed_serial (Behind at) None h = λ bs rs c is. none_behind at.serial h.0 h.1 bs c rs is h.2
   keyed_serial (Behind at) (Some it) h = λ bs rs c is.
       some_behind at.serial h.0 h.1 bs c rs is it.serial h.2.0 h.2.1.0 h.2.1.1 h.2.1.2
@@ -297,12 +317,3 @@ module _ (d : DictOf Entry) (apart : IsDistinct (serials (inner (held.Dict d))))
       some_before at.serial h.0 h.1 bs c rs is it.serial h.2.0 h.2.1.0 h.2.1.1 h.2.1.2
   keyed_serial (RoundBehind at) r h = absurd h
   keyed_serial (RoundBefore at) r h = absurd h
-
--- a queue has no such places, and a dictionary none round its ends
-pub no_queue : (near : Near) → is_of (near_kinds near) sorts.Queue ≡ true → ⊥
-no_queue First h = let no : false ≡ true = h in cc
-no_queue Last h = let no : false ≡ true = h in cc
-no_queue (Behind it) h = let no : false ≡ true = h in cc
-no_queue (Before it) h = let no : false ≡ true = h in cc
-no_queue (RoundBehind it) h = let no : false ≡ true = h in cc
-no_queue (RoundBefore it) h = let no : false ≡ true = h in cc

@@ -13,7 +13,7 @@ use Rattle.object_store.specs.declared.objects.Place.{Place}
 use Rattle.object_store.specs.declared.slots.Named.{Named}
 use Rattle.object_store.specs.State.{Cell}
 use Rattle.object_store.specs.Commands.{with_cells}
-use Rattle.object_store.specs.Inner.{Inner, inner, made_in, kind_of, cell_in, cells_in, seen}
+use Rattle.object_store.specs.Inner.{Inner, inner, made_in, kind_of, cell_in, cells_in, seen, values_in}
 use Rattle.object_store.specs.Slots.{objects_in}
 use Rattle.object_store.specs.Kept.{Places, state_of, IsAt, IsSaid, IsSound, IsKept, Replaces}
 use Rattle.object_store.specs.Entrance.{Leaves}
@@ -116,8 +116,8 @@ module _ (ps qs : Places) (cells less : Contents Place) (kept : IsKept ps cells)
   pub state_leaves : state_of qs less ≡ with_cells r.old.name (seen r.old.object) (pairs_without i (cells_in r.old.object)) (state_of ps cells)
   state_leaves =
       (λ j. record { objects = objects_now ps qs place.slot r.old r.new r.was r.is r.name kept.apart j; made = made j })
-      ∙ (λ j. record { objects = finmap.insert (objects_in ps) r.old.name (record { kind = r.changed.kind j; cells = map cell_in (r.changed.inner j) }); made = cells.made })
-      ∙ ap (λ cs. record { objects = finmap.insert (objects_in ps) r.old.name (record { kind = kind_of r.old.object; cells = cs }); made = cells.made })
+      ∙ (λ j. record { objects = finmap.insert (objects_in ps) r.old.name (record { kind = r.changed.kind j; cells = map cell_in (r.changed.inner j); values = r.changed.values j }); made = cells.made })
+      ∙ ap (λ cs. record { objects = finmap.insert (objects_in ps) r.old.name (record { kind = kind_of r.old.object; cells = cs; values = values_in r.old.object }); made = cells.made })
       (without_of cell_in place.item.serial i (inner r.old.object) (agrees ps cells kept place.slot place.item.serial i r.old here_at.1 r.was value_here here_at.4))
 
 -- the pool has one item less

@@ -5,8 +5,12 @@ use Rattle.std.proofs.lemmas.Bool.Decides.{eqb_tells}
 use Rattle.item_ring.specs.RingLists.{IsIn, IsDistinct}
 use Rattle.item_list.specs.Items.{serials, value_at, pairs_before, pairs_behind}
 use Rattle.object_store.specs.declared.entrance.Entrance.{Entrance}
-use Rattle.object_store.specs.declared.entrance.Entrance.TheVariants.{Front, Rear, Before, Behind}
-use Rattle.object_store.specs.Entrance.{entered, IsThere}
+use Rattle.object_store.specs.declared.entrance.Entrance.TheVariants.{At, Key, Priority}
+use Rattle.object_store.specs.declared.entrance.Spot.{Spot}
+use Rattle.object_store.specs.declared.entrance.Spot.TheVariants.{Front, Rear, Before, Behind}
+use Rattle.object_store.specs.Cells.{goes_before}
+use Rattle.object_store.specs.Inner.{Inner}
+use Rattle.object_store.specs.Entrance.{entered, placed_in, spotted, IsNamedThere, IsThere}
 use Rattle.object_store.proofs.Pairs.{before_of, behind_of, keeps, same_number}
 
 some_none : {A : Type 0} (a : A) → Some a ≡ None → ⊥
@@ -20,11 +24,11 @@ map_more f [] ys = refl
 map_more f (x ∷ xs) ys = ap (λ zs. f x ∷ zs) (map_more f xs ys)
 
 -- a function that keeps the numbers
-pub entered_of : {X Y : Type 0} (f : ℕ × X → ℕ × Y) → ((p : ℕ × X) → (f p).0 ≡ p.0) → (entrance : Entrance) (p : ℕ × X) (ps : List (ℕ × X)) → map f (entered entrance p ps) ≡ entered entrance (f p) (map f ps)
-entered_of f same Front p ps = refl
-entered_of f same Rear p ps = map_more f ps (p ∷ [])
-entered_of f same (Before it) p ps = before_of f it.serial it.serial p ps (keeps f same it.serial ps)
-entered_of f same (Behind it) p ps = behind_of f it.serial it.serial p ps (keeps f same it.serial ps)
+pub spotted_of : {X Y : Type 0} (f : ℕ × X → ℕ × Y) → ((p : ℕ × X) → (f p).0 ≡ p.0) → (spot : Spot) (p : ℕ × X) (ps : List (ℕ × X)) → map f (spotted spot p ps) ≡ spotted spot (f p) (map f ps)
+spotted_of f same Front p ps = refl
+spotted_of f same Rear p ps = map_more f ps (p ∷ [])
+spotted_of f same (Before it) p ps = before_of f it.serial it.serial p ps (keeps f same it.serial ps)
+spotted_of f same (Behind it) p ps = behind_of f it.serial it.serial p ps (keeps f same it.serial ps)
 
 pub cond_true : {A : Type 0} (b : Bool) (x y : A) → b ≡ true → cond b x y ≡ x
 cond_true b x y e = ap (λ c. cond c x y) e
@@ -77,7 +81,7 @@ module _ {X : Type 0} where
         }
   ]
 
-  pub splits : (entrance : Entrance) (p : ℕ × X) (ps : List (ℕ × X)) → IsThere entrance ps → Splits ps (entered entrance p ps) p
+  pub splits : (spot : Spot) (p : ℕ × X) (ps : List (ℕ × X)) → IsThere spot ps → Splits ps (spotted spot p ps) p
   splits Front p ps there = record { front = []; rear = ps; was = refl; is = refl }
   splits Rear p ps there = record { front = ps; rear = []; was = at_end ps; is = refl }
   splits (Before it) p ps there = split_before it.serial p ps there.0 there.1
@@ -128,3 +132,18 @@ module _ {X : Type 0} where
     pub distinct_in : IsDistinct (serials ps) → IsDistinct (serials qs)
     distinct_in apart = subst (λ (rs : List (ℕ × X)). IsDistinct (serials rs)) (sym cut.is)
         (distinct_split cut.front cut.rear p (ap (value_at p.0) (sym cut.was) ∙ none) (subst (λ (rs : List (ℕ × X)). IsDistinct (serials rs)) cut.was apart))
+
+-- ---- an item that comes into a container
+split_placed : (p : Inner) (xs : List Inner) → Splits xs (placed_in p xs) p
+split_placed p [] = record { front = []; rear = []; was = refl; is = refl }
+split_placed p (q ∷ qs) = elim (goes_before p.1 q.1) as (λ b. Splits (q ∷ qs) (cond b (p ∷ q ∷ qs) (q ∷ placed_in p qs)) p) [
+  | true ↦ record { front = []; rear = q ∷ qs; was = refl; is = refl }
+  | false ↦
+      let r = split_placed p qs in
+      record { front = q ∷ r.front; rear = r.rear; was = ap (λ rs. q ∷ rs) r.was; is = ap (λ rs. q ∷ rs) r.is }
+]
+
+pub split_entered : (entrance : Entrance) (p : Inner) (xs : List Inner) → IsNamedThere entrance xs → Splits xs (entered entrance p xs) p
+split_entered (At spot) p xs there = splits spot p xs there
+split_entered (Key k) p xs there = split_placed p xs
+split_entered (Priority r) p xs there = splits Rear p xs tt

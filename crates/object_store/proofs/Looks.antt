@@ -1,5 +1,5 @@
 -- What is asked of objects by name and by item, as the places have it.
-use Rattle.std.proofs.Common.{◌≡◌, ℕ, ◌≢◌, Bool, true, false, cond, List, [], Option, Some, None, is_some, refl, ap, ◌∙◌}
+use Rattle.std.proofs.Common.{◌≡◌, ℕ, ◌≢◌, Bool, true, false, cond, List, Option, Some, None, is_some, refl, ap, ◌∙◌}
 use Rattle.std.specs.Prelude.{slice_get, option_map, option_and_then}
 use Rattle.std.specs.FinMap as finmap
 use Rattle.item_pool.specs.Contents.{Contents}
@@ -10,11 +10,10 @@ use Rattle.reply_text.specs.Outcome.{done, refused}
 use Rattle.script_text.specs.declared.form.Kinds.{Kinds}
 use Rattle.object_store.specs.declared.objects.Place.{Place}
 use Rattle.object_store.specs.declared.objects.TheConstants.{OBJECT_LIMIT}
-use Rattle.object_store.specs.declared.kind.ObjectKind.{ObjectKind}
 use Rattle.object_store.specs.declared.slots.Named.{Named}
 use Rattle.object_store.specs.State.{Cell, Object, ObjectState}
 use Rattle.object_store.specs.Views.{is_of, of_kinds, has_object, object_of, holder_of, holds_cell}
-use Rattle.object_store.specs.Commands.{make, with_object}
+use Rattle.object_store.specs.Commands.{comes_in, with_object}
 use Rattle.object_store.specs.Inner.{inner, kind_of, seen}
 use Rattle.object_store.specs.Slots.{found}
 use Rattle.object_store.specs.Kept.{Places, state_of, IsKept}
@@ -62,9 +61,9 @@ module _ (ps : Places) (cells : Contents Place) (kept : IsKept ps cells) where
   holds_none kinds i none =
       ap (λ h. is_some {T = List ℕ × Object} (option_and_then (λ name. option_map (λ (o : Object). (name, o)) (object_of state kinds name)) h)) (nobody_holds ps cells kept i none)
 
--- ---- `list`, `dict` and `queue`
-pub make_full : (kind : ObjectKind) (name : List ℕ) (s : ObjectState) → finmap.len s.objects ≡ OBJECT_LIMIT → make kind name s ≡ refused s FullObjects
-make_full kind name s full = ap (λ b. cond b (refused s FullObjects) (done (with_object name (record { kind = kind; cells = [] }) s) Empty)) (number_of (finmap.len s.objects) OBJECT_LIMIT full)
+-- ---- a new object
+pub come_full : (name : List ℕ) (o : Object) (s : ObjectState) → finmap.len s.objects ≡ OBJECT_LIMIT → comes_in name o s ≡ refused s FullObjects
+come_full name o s full = ap (λ b. cond b (refused s FullObjects) (done (with_object name o s) Empty)) (number_of (finmap.len s.objects) OBJECT_LIMIT full)
 
-pub make_done : (kind : ObjectKind) (name : List ℕ) (s : ObjectState) → finmap.len s.objects ≢ OBJECT_LIMIT → make kind name s ≡ done (with_object name (record { kind = kind; cells = [] }) s) Empty
-make_done kind name s not = ap (λ b. cond b (refused s FullObjects) (done (with_object name (record { kind = kind; cells = [] }) s) Empty)) (number_not (finmap.len s.objects) OBJECT_LIMIT not)
+pub come_done : (name : List ℕ) (o : Object) (s : ObjectState) → finmap.len s.objects ≢ OBJECT_LIMIT → comes_in name o s ≡ done (with_object name o s) Empty
+come_done name o s not = ap (λ b. cond b (refused s FullObjects) (done (with_object name o s) Empty)) (number_not (finmap.len s.objects) OBJECT_LIMIT not)

@@ -1,5 +1,5 @@
 -- A new object comes into a place.
-use Rattle.std.proofs.Common.{◌≡◌, ℕ, ◌≢◌, true, false, is_some, map, List, [], ◌∷◌, Some, None, refl, sym, ap, subst, ◌∙◌, ◌⊎◌, inl, inr, arith}
+use Rattle.std.proofs.Common.{◌≡◌, ℕ, ◌≢◌, true, false, is_some, List, [], ◌∷◌, Some, None, refl, sym, ap, subst, ◌∙◌, ◌⊎◌, inl, inr, arith}
 use Rattle.std.specs.Prelude.{slice_get, option_and_then}
 use Rattle.std.specs.Ordering.{nat_cmp}
 use Rattle.std.specs.FinMap as finmap
@@ -9,15 +9,14 @@ use Rattle.item_ring.specs.RingLists.{IsDistinct}
 use Rattle.object_store.specs.declared.objects.Place.{Place}
 use Rattle.object_store.specs.declared.slots.Named.{Named}
 use Rattle.object_store.specs.State.{Cell, ObjectState}
-use Rattle.object_store.specs.Inner.{Inner, inner, made_in, kind_of, cell_in, seen}
+use Rattle.object_store.specs.Inner.{Inner, inner, made_in, seen}
 use Rattle.reply_text.specs.declared.reply.Reply.{Reply}
 use Rattle.reply_text.specs.declared.reply.Reply.TheVariants.{Line}
 use Rattle.reply_text.specs.declared.reply.ReplyLine.TheVariants.{Empty}
 use Rattle.reply_text.specs.Outcome.{done}
-use Rattle.object_store.specs.declared.kind.ObjectKind.{ObjectKind}
 use Rattle.object_store.specs.declared.objects.TheConstants.{OBJECT_LIMIT}
-use Rattle.object_store.proofs.Looks.{make_done}
-use Rattle.object_store.specs.Commands.{make, with_object}
+use Rattle.object_store.proofs.Looks.{come_done}
+use Rattle.object_store.specs.Commands.{comes_in, with_object}
 use Rattle.object_store.specs.Slots.{objects_in, found, taken, AreApart}
 use Rattle.object_store.specs.Views.{of_kinds, has_object}
 use Rattle.script_text.specs.declared.form.Kinds.TheVariants.{Any}
@@ -117,10 +116,10 @@ pub made_object : (ps qs : Places) (cells : Contents Place) (n : Named) → Puts
 made_object ps qs cells n puts none = ap (λ o. record { objects = o; made = cells.made }) (objects_put ps qs n puts none)
 
 -- the reply, once it is there
-pub made_state : (ps qs : Places) (cells : Contents Place) (n : Named) (name : List ℕ) (kind : ObjectKind) (s : ObjectState) (reply : Reply)
-    → Puts ps qs n → found n.name ps ≡ None → n.name ≡ name → kind_of n.object ≡ kind → inner n.object ≡ [] → state_of ps cells ≡ s → finmap.len s.objects ≢ OBJECT_LIMIT
-    → reply ≡ Line Empty → (state_of qs cells, reply) ≡ make kind name s
-made_state ps qs cells n name kind s reply puts none named is bare same few answer =
+pub made_state : (ps qs : Places) (cells : Contents Place) (n : Named) (name : List ℕ) (s : ObjectState) (reply : Reply)
+    → Puts ps qs n → found n.name ps ≡ None → n.name ≡ name → state_of ps cells ≡ s → finmap.len s.objects ≢ OBJECT_LIMIT
+    → reply ≡ Line Empty → (state_of qs cells, reply) ≡ comes_in name (seen n.object) s
+made_state ps qs cells n name s reply puts none named same few answer =
     (λ i. (made_object ps qs cells n puts none i, answer i))
-    ∙ (λ i. done (with_object (named i) (record { kind = is i; cells = map cell_in (bare i) }) (same i)) Empty)
-    ∙ sym (make_done kind name s few)
+    ∙ (λ i. done (with_object (named i) (seen n.object) (same i)) Empty)
+    ∙ sym (come_done name (seen n.object) s few)

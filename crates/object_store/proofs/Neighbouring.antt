@@ -1,6 +1,6 @@
 -- The item beside another one, as its row says.
 use Rattle.std.proofs.Common.{◌≡◌, ℕ, true, List, [], ◌∷◌, ◌++◌, map, Option, Some, refl, sym, ap, subst, ◌∙◌}
-use Rattle.std.specs.Prelude.{ℤ, slice_get}
+use Rattle.std.specs.Prelude.{ℤ}
 use Rattle.item_pool.specs.Contents.{Contents}
 use Rattle.item_list.specs.Items.{value_at}
 use Rattle.script_text.specs.declared.argument.Arg.TheVariants as args
@@ -10,22 +10,18 @@ use Rattle.reply_text.specs.Outcome.{Outcome, done}
 use Rattle.object_store.specs.declared.kind.ObjectKind.{ObjectKind}
 use Rattle.object_store.specs.declared.near.Neighbour.{Neighbour}
 use Rattle.object_store.specs.declared.near.Neighbour.TheVariants.{Succ, Pred, CyclicSucc, CyclicPred}
-use Rattle.object_store.specs.declared.near.Sought.{Sought}
-use Rattle.object_store.specs.declared.near.Sought.TheVariants as sought
-use Rattle.object_store.specs.declared.object.Object.{Object as Held}
 use Rattle.object_store.specs.declared.objects.Place.{Place}
-use Rattle.object_store.specs.declared.slots.Named.{Named}
 use Rattle.object_store.specs.State.{Cell, Object, ObjectState}
 use Rattle.object_store.specs.Cells.{first_of, last_of, before, behind}
-use Rattle.object_store.specs.Commands.{objects_done, on_cell, on_object, number_line}
-use Rattle.object_store.specs.Views.{is_of, has_object}
-use Rattle.object_store.specs.Words.{sought_word, sought_kinds, neighbour_word, neighbour_kinds}
-use Rattle.object_store.specs.Inner.{Inner, inner, cell_in, cells_in, seen}
-use Rattle.object_store.specs.Near.{near_sought, near_of, near_kinds, IsNumber, IsPlaced}
+use Rattle.object_store.specs.Commands.{objects_done, on_cell, number_line}
+use Rattle.object_store.specs.Views.{is_of}
+use Rattle.object_store.specs.Words.{neighbour_word, neighbour_kinds}
+use Rattle.object_store.specs.Inner.{Inner, inner, cell_in, cells_in}
+use Rattle.object_store.specs.Near.{near_of, near_kinds, IsNumber, IsPlaced}
 use Rattle.item_pool.specs.declared.pool.Item.{Item}
 use Rattle.object_store.specs.Kept.{Places, state_of, IsKept}
 use Rattle.object_store.proofs.Holders.{agrees}
-use Rattle.object_store.proofs.Leads.{CellAt, on_cell_there, on_object_there}
+use Rattle.object_store.proofs.Leads.{CellAt, on_cell_there}
 use Rattle.object_store.proofs.Lists.{map_more}
 use Rattle.object_store.proofs.Pairs.{Agrees}
 use Rattle.object_store.proofs.Standing.{Cut, cut_at, behind_cut, before_cut}
@@ -84,38 +80,7 @@ module _ (ps : Places) (cells : Contents Place) (kept : IsKept ps cells) (p : Pl
       ∙ on_cell_there ps cells kept (neighbour_kinds what) i p w (beside_row what i s)
       ∙ ap (λ o. Some (s, Line (number_line o))) (beside_is (neighbour_kinds what) w what n h)
 
--- the item that is sought in the object of the name
-abbrev sought_number : Sought → Object → Option ℕ
-sought_number sought.First o = first_of o.cells
-sought_number sought.Last o = last_of o.cells
-
-abbrev sought_row : Sought → ObjectState → Object → Outcome ObjectState
-sought_row what s o = done s (number_line (sought_number what o))
-
-sought_is : (what : Sought) (name : List ℕ) (s : ObjectState) → objects_done (sought_word what) (args.Name name ∷ []) s ≡ on_object s (sought_kinds what) name (sought_row what s)
-sought_is sought.First name s = refl
-sought_is sought.Last name s = refl
-
-found_is : (what : Sought) (o : Held) (n : Option ℕ) → IsNumber (near_sought what) o n → sought_number what (seen o) ≡ n
-found_is sought.First o n h = sym h
-found_is sought.Last o n h = sym h
-
-pub found_row : (ps : Places) (cells : Contents Place) (kept : IsKept ps cells) (k : ℕ) (m : Named) (name : List ℕ) (what : Sought) (n : Option ℕ) → slice_get ps k ≡ Some (Some m) → m.name ≡ name → has_object (state_of ps cells) (sought_kinds what) name ≡ true → IsNumber (near_sought what) m.object n
-    → objects_done (sought_word what) (args.Name name ∷ []) (state_of ps cells) ≡ Some (state_of ps cells, Line (number_line n))
-found_row ps cells kept k m name what n at is has h =
-    sought_is what name (state_of ps cells)
-    ∙ on_object_there ps cells kept (sought_kinds what) k m name (sought_row what (state_of ps cells)) at is has
-    ∙ ap (λ o. Some (state_of ps cells, Line (number_line o))) (found_is what m.object n h)
-
 -- what is asked for is there, in an object that has such a place
-pub placed_sought : (what : Sought) (xs : List Inner) → IsPlaced (near_sought what) xs
-placed_sought sought.First xs = tt
-placed_sought sought.Last xs = tt
-
-pub kind_sought : (what : Sought) (kind : ObjectKind) → is_of (sought_kinds what) kind ≡ true → is_of (near_kinds (near_sought what)) kind ≡ true
-kind_sought sought.First kind h = h
-kind_sought sought.Last kind h = h
-
 pub placed_near : (what : Neighbour) (it : Item) (xs : List Inner) (c : Cell) → value_at it.serial xs ≡ Some c → IsPlaced (near_of what it) xs
 placed_near Succ it xs c at = (c, at)
 placed_near Pred it xs c at = (c, at)

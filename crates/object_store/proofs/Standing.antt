@@ -1,18 +1,20 @@
 -- Where an item stands among others, said with serials and with numbers.
-use Rattle.std.proofs.Common.{◌≡◌, ℕ, false, List, [], ◌∷◌, ◌++◌, map, Option, Some, None, refl, sym, ap, subst, ◌∙◌, inl, inr}
-use Rattle.std.specs.Prelude.{◌==◌, ⊤, option_map, option_and_then}
+use Rattle.std.proofs.Common.{◌≡◌, ℕ, true, false, cond, List, [], ◌∷◌, ◌++◌, map, Option, Some, None, refl, sym, ap, subst, ◌∙◌, inl, inr}
+use Rattle.std.specs.Prelude.{ℤ, ◌==◌, ⊤, option_map, option_and_then, find as first_such}
+use Rattle.std.specs.Ordering.{int_eq}
 use Rattle.std.proofs.lemmas.Bool.Decides.{eqb_tells}
 use Rattle.item_pool.specs.declared.pool.Item.{Item}
 use Rattle.item_ring.specs.RingLists.{IsDistinct, front, back}
 use Rattle.item_list.specs.Items.{Items, serials, serial_of, value_at}
 use Rattle.item_list.proofs.Turned.{serials_join}
 use Rattle.object_store.specs.declared.near.Near.{Near}
-use Rattle.object_store.specs.declared.near.Near.TheVariants.{First, Last, Behind, Before, RoundBehind, RoundBefore}
+use Rattle.object_store.specs.declared.near.Near.TheVariants.{First, Last, WithKey, Least, Behind, Before, RoundBehind, RoundBefore}
 use Rattle.object_store.specs.declared.object.Entry.{Entry}
 use Rattle.object_store.specs.declared.object.Object.{Object as Held}
 use Rattle.object_store.specs.declared.object.Object.TheVariants as held
 use Rattle.object_store.specs.State.{Cell}
-use Rattle.object_store.specs.Cells.{first_of, last_of, before, behind}
+use Rattle.object_store.specs.Cells.{head_of, first_of, last_of, before, behind, with_key}
+use Rattle.object_store.specs.Commands.{number_of}
 use Rattle.object_store.specs.Inner.{Inner, inner, list_cell, cell_in}
 use Rattle.object_store.specs.Near.{number_at, IsItem, IsNumber}
 use Rattle.object_store.proofs.Lists.{cond_true, cond_false}
@@ -93,10 +95,25 @@ module _ (s i : ℕ) (c : Cell) (rs : List Inner) where
       ∙ ap (λ ys. b.1 ∷ ys) (before_cut bs none.1 h.1)
 
 -- ---- the item there, by its serial
+-- the item with the key
+abbrev pub key_in : ℤ → List Inner → Option Inner
+key_in k xs = first_such (λ (x : Inner). int_eq (head_of x.1.1) k) xs
+
+-- its number
+key_number : (k : ℤ) (xs ys : List Inner) → AllIn xs ys → option_and_then (number_at xs) (option_map (λ (x : Inner). x.0) (key_in k ys)) ≡ number_of (with_key k (map cell_in ys))
+key_number k xs [] h = refl
+key_number k xs (y ∷ ys) h =
+    elim (int_eq (head_of y.1.1) k) as (λ b. option_and_then (number_at xs) (option_map (λ (x : Inner). x.0) (cond b (Some y) (key_in k ys))) ≡ number_of (cond b (Some y.1) (with_key k (map cell_in ys)))) [
+      | true ↦ ap (λ v. option_map (λ (c : Cell). c.0) v) h.0
+      | false ↦ key_number k xs ys h.1
+    ]
+
 -- the item is the one that stands there among others
 abbrev pub IsSerial : Near → List Inner → Option Item → Type 0
 IsSerial First xs r = serial_of r ≡ front (serials xs)
 IsSerial Last xs r = serial_of r ≡ back (serials xs)
+IsSerial (WithKey k) xs r = serial_of r ≡ option_map (λ (x : Inner). x.0) (key_in k xs)
+IsSerial Least xs r = ⊥
 IsSerial (Behind it) xs r =
     (bs rs : List Inner) (c : Cell) → xs ≡ bs ++ (it.serial, c) ∷ rs → serial_of r ≡ front (serials rs)
 IsSerial (Before it) xs r =
@@ -126,6 +143,8 @@ module _ (o : Held) (r : Option Item) (n : Option ℕ) (apart : IsDistinct (seri
   pub number_there : (near : Near) → IsSerial near xs r → IsNumber near o n
   number_there First h = of_first xs (all_in xs apart) h
   number_there Last h = of_last xs (all_in xs apart) h
+  number_there (WithKey k) h = is ∙ ap (option_and_then (number_at xs)) h ∙ key_number k xs xs (all_in xs apart)
+  number_there Least h = absurd h
   number_there (Behind it) h = λ bs rs c e. of_first rs (parts bs rs it.serial c e).1.1 (h bs rs c e)
   number_there (Before it) h = λ bs rs c e. of_last bs (parts bs rs it.serial c e).0 (h bs rs c e)
   number_there (RoundBehind it) h = λ bs rs c e.
@@ -148,6 +167,8 @@ module _ (l : Items Entry) (r : Option Item) where
   pub list_serial : (near : Near) → IsItem near l r → IsSerial near (inner (held.List l)) r
   list_serial First h = h ∙ ap front (sym (serials_map l.pairs))
   list_serial Last h = h ∙ ap back (sym (serials_map l.pairs))
+  list_serial (WithKey k) h = absurd h
+  list_serial Least h = absurd h
   list_serial (Behind it) h = λ bs rs c e. h (serials bs) (serials rs) (between bs rs it.serial c e)
   list_serial (Before it) h = λ bs rs c e. h (serials bs) (serials rs) (between bs rs it.serial c e)
   list_serial (RoundBehind it) h = λ bs rs c e.

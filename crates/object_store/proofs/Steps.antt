@@ -18,11 +18,11 @@ use Rattle.object_store.specs.Commands.{with_cells}
 use Rattle.object_store.specs.Inner.{Inner, inner, made_in, cell_in, seen}
 use Rattle.object_store.specs.Slots.{objects_in, AreApart}
 use Rattle.object_store.specs.Kept.{Places, state_of, IsSaid, IsSound, IsKept, Replaces}
-use Rattle.object_store.specs.Entrance.{entered, IsThere, Enters, IsLike}
+use Rattle.object_store.specs.Entrance.{entered, IsNamedThere, Enters, IsLike}
 use Rattle.object_store.proofs.Names.{total, tells}
 use Rattle.object_store.proofs.Places.{at_within, at_else, at_set, from_set}
 use Rattle.object_store.proofs.Found.{Alone, alone_there, apart_set, objects_with, get_objects, get_found}
-use Rattle.object_store.proofs.Lists.{Splits, splits, value_in, distinct_in, cond_true, cond_false}
+use Rattle.object_store.proofs.Lists.{Splits, split_entered, value_in, distinct_in, cond_true, cond_false}
 use Rattle.object_store.proofs.Pairs.{number_of, number_not, number_itself}
 
 some_none : {A : Type 0} (a : A) → Some a ≡ None → ⊥
@@ -133,7 +133,7 @@ like_items o t apart like = record {
 }
 
 pub like_seen : (o t : Held) → IsLike o t → seen t ≡ seen o
-like_seen o t like = λ i. record { kind = like.kind i; cells = map cell_in (like.inner i) }
+like_seen o t like = λ i. record { kind = like.kind i; cells = map cell_in (like.inner i); values = like.values i }
 
 module _ (ps qs : Places) (k : ℕ) (cells : Contents Place) (kept : IsKept ps cells) (r : Replaces ps qs k IsLike) where
   pub kept_like : IsKept qs cells
@@ -145,7 +145,7 @@ module _ (ps qs : Places) (k : ℕ) (cells : Contents Place) (kept : IsKept ps c
 -- ---- an item comes in
 module _ (ps qs : Places) (k : ℕ) (cells more : Contents Place) (kept : IsKept ps cells) (range : IsWithin cells)
     (entrance : Entrance) (it : Item) (at_pool : Item) (c : Cell) (place : Place)
-    (r : Replaces ps qs k (λ o t. Enters entrance o t it.serial c)) (fits : IsThere entrance (inner r.old.object))
+    (r : Replaces ps qs k (λ o t. Enters entrance o t it.serial c)) (fits : IsNamedThere entrance (inner r.old.object))
     (pool : Inserts cells more at_pool place) (slot : place.slot ≡ k) (item : place.item.serial ≡ it.serial) (number : c.0 ≡ cells.made + 1) where
   abbrev next : ℕ
   next = made_in r.old.object + 1
@@ -160,7 +160,7 @@ module _ (ps qs : Places) (k : ℕ) (cells more : Contents Place) (kept : IsKept
   ] refl
 
   cut : Splits (inner r.old.object) (inner r.new.object) (next, c)
-  cut = subst (λ (xs : List Inner). Splits (inner r.old.object) xs (next, c)) (sym r.changed.inner) (splits entrance (next, c) (inner r.old.object) fits)
+  cut = subst (λ (xs : List Inner). Splits (inner r.old.object) xs (next, c)) (sym r.changed.inner) (split_entered entrance (next, c) (inner r.old.object) fits)
 
   value_now : (t : ℕ) → value_at t (inner r.new.object) ≡ cond (next == t) (Some c) (value_at t (inner r.old.object))
   value_now t = value_in (inner r.old.object) (inner r.new.object) (next, c) cut absent t
@@ -264,4 +264,4 @@ module _ (ps qs : Places) (k : ℕ) (cells more : Contents Place) (kept : IsKept
   pub state_enters : state_of qs more ≡ record (with_cells r.old.name (seen r.old.object) (map cell_in (entered entrance (next, c) (inner r.old.object))) (state_of ps cells)) { made = cells.made + 1 }
   state_enters =
       (λ i. record { objects = objects_now ps qs k r.old r.new r.was r.is r.name kept.apart i; made = pool.made i })
-      ∙ (λ i. record { objects = finmap.insert (objects_in ps) r.old.name (record { kind = r.changed.kind i; cells = map cell_in (r.changed.inner i) }); made = cells.made + 1 })
+      ∙ (λ i. record { objects = finmap.insert (objects_in ps) r.old.name (record { kind = r.changed.kind i; cells = map cell_in (r.changed.inner i); values = r.changed.values i }); made = cells.made + 1 })

@@ -58,6 +58,8 @@ abbrev pub listed_by : ObjectKind → List Cell → List Cell
 listed_by sorts.List cells = cells
 listed_by sorts.Dict cells = cells
 listed_by sorts.Queue cells = in_order cells
+listed_by (sorts.Array sort) cells = cells
+listed_by (sorts.Map sort) cells = cells
 
 abbrev pub listed : Object → List Cell
 listed o = listed_by o.kind o.cells

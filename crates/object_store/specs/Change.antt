@@ -8,7 +8,7 @@ use Rattle.object_store.specs.declared.kind.ObjectKind.TheVariants as sorts
 use Rattle.object_store.specs.declared.object.Object.{Object as Held}
 use Rattle.object_store.specs.State.{Cell}
 use Rattle.object_store.specs.Cells.{head_of, inf_of, written}
-use Rattle.object_store.specs.Inner.{Inner, inner, kind_of, made_in}
+use Rattle.object_store.specs.Inner.{Inner, inner, kind_of, made_in, values_in}
 use Rattle.object_store.specs.Entrance.{with_end}
 
 -- the item is there, under its number, and the container has such a change
@@ -37,5 +37,6 @@ Becomes (Lower it p) kind xs ys =
 -- the container has changed so, and gave no serial
 pub record IsChanged (change : Change) (o t : Held) : Type 0 where
   pub kind : kind_of t ≡ kind_of o
+  pub values : values_in t ≡ values_in o
   pub made : made_in t ≡ made_in o
   pub items : Becomes change (kind_of o) (inner o) (inner t)

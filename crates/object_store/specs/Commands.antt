@@ -1,5 +1,5 @@
 -- What each command on objects does to them, and what it is answered.
-use Rattle.std.specs.Prelude.{ℕ, ℤ, pos, ◌+◌, ◌==◌, List, [], ◌∷◌, ◌++◌, length, reverse, Option, Some, None, option_map, option_and_then, if◌then◌else◌, int_lt}
+use Rattle.std.specs.Prelude.{ℕ, ℤ, pos, ◌+◌, ◌==◌, List, [], ◌∷◌, ◌++◌, map, length, reverse, Option, Some, None, option_map, option_and_then, if◌then◌else◌, int_lt}
 use Rattle.std.specs.FinMap as map
 use Rattle.item_pool.specs.declared.pool.TheConstants.{MOST_SERIALS}
 use Rattle.item_list.specs.Items.{value_at, pairs_without, pairs_before, pairs_behind, pairs_with}
@@ -9,7 +9,7 @@ use Rattle.script_text.specs.declared.argument.Arg.TheVariants as args
 use Rattle.script_text.specs.declared.form.Kinds.{Kinds}
 use Rattle.script_text.specs.declared.form.Kinds.TheVariants as kinds
 use Rattle.reply_text.specs.declared.reply.ReplyLine.{ReplyLine}
-use Rattle.reply_text.specs.declared.reply.ReplyLine.TheVariants.{Empty, Nil, Num, Name}
+use Rattle.reply_text.specs.declared.reply.ReplyLine.TheVariants.{Empty, Nil, Num, Name, Cells}
 use Rattle.reply_text.specs.declared.refusal.Refusal.{Refusal}
 use Rattle.reply_text.specs.declared.refusal.Refusal.TheVariants.{FullItems, FullObjects, Spent, Larger}
 use Rattle.reply_text.specs.Outcome.{Outcome, done, refused, unless}
@@ -20,7 +20,7 @@ use Rattle.script_text.specs.declared.word.ObjectWord.{ObjectWord}
 use Rattle.script_text.specs.declared.word.ObjectWord.TheVariants as words
 use Rattle.object_store.specs.State.{Cell, Object, ObjectState}
 use Rattle.object_store.specs.Views.{object_of, holder_of, live_cells}
-use Rattle.object_store.specs.Cells.{head_of, inf_of, before, behind, first_of, last_of, placed}
+use Rattle.object_store.specs.Cells.{head_of, inf_of, before, behind, first_of, last_of, with_key, placed, listed, shown}
 
 -- the objects with this one under the name, and without that of the name
 abbrev pub with_object : List ℕ → Object → ObjectState → ObjectState
@@ -39,11 +39,15 @@ full_cell s =
     if live_cells s == CELL_LIMIT then Some FullItems
     else if s.made == MOST_SERIALS then Some Spent else None
 
--- `list X`, `dict X` and `queue X`
-abbrev pub make : ObjectKind → List ℕ → ObjectState → Outcome ObjectState
-make kind name s =
+-- a new object comes in, unless there are as many as there may be
+abbrev pub comes_in : List ℕ → Object → ObjectState → Outcome ObjectState
+comes_in name o s =
     if map.len s.objects == OBJECT_LIMIT then refused s FullObjects
-    else done (with_object name (record { kind = kind; cells = [] }) s) Empty
+    else done (with_object name o s) Empty
+
+-- a container of the kind without items
+abbrev pub container : ObjectKind → Object
+container kind = record { kind = kind; cells = []; values = None }
 
 -- one item more, with the next number, where the object of the name then has these items
 abbrev pub enters : List ℕ → Object → List Cell → ObjectState → Outcome ObjectState
@@ -60,6 +64,10 @@ abbrev pub dict_insert : List ℕ → ℤ → ℤ → Object → ObjectState →
 dict_insert name key inf o s (Some c) =
     done (with_cells name o (pairs_with c.0 (key ∷ inf ∷ []) o.cells) s) (Name (items.Cell c.0))
 dict_insert name key inf o s None = enters name o (placed (next (key ∷ inf ∷ []) s) o.cells) s
+
+-- the number of an item, if there is one
+abbrev pub number_of : Option Cell → Option ℕ
+number_of c = option_map (λ (d : Cell). d.0) c
 
 -- the item of the number, if there is one
 abbrev pub number_line : Option ℕ → ReplyLine
@@ -101,13 +109,15 @@ on_cell s kinds i f =
 
 -- a command by its word, if these are arguments that the word takes
 abbrev pub objects_done : ObjectWord → List Arg → ObjectState → Option (Outcome ObjectState)
-objects_done words.MakeList (args.Name x ∷ []) s = Some (make sorts.List x s)
-objects_done words.MakeDict (args.Name x ∷ []) s = Some (make sorts.Dict x s)
-objects_done words.MakeQueue (args.Name x ∷ []) s = Some (make sorts.Queue x s)
+objects_done words.MakeList (args.Name x ∷ []) s = Some (comes_in x (container sorts.List) s)
+objects_done words.MakeDict (args.Name x ∷ []) s = Some (comes_in x (container sorts.Dict) s)
+objects_done words.MakeQueue (args.Name x ∷ []) s = Some (comes_in x (container sorts.Queue) s)
 objects_done words.DropObject (args.Name x ∷ []) s =
     on_object s kinds.Any x (λ o. done (without_object x s) Empty)
 objects_done words.Size (args.Name x ∷ []) s =
     on_object s kinds.Container x (λ o. done s (Num (pos (length o.cells))))
+objects_done words.Items (args.Name x ∷ []) s =
+    on_object s kinds.Container x (λ o. done s (Cells (map shown (listed o))))
 objects_done words.Push (args.Name x ∷ args.Num v ∷ []) s =
     on_object s kinds.List x (λ o. enters x o (next (v ∷ []) s ∷ o.cells) s)
 objects_done words.Append (args.Name x ∷ args.Num v ∷ []) s =
@@ -143,10 +153,25 @@ objects_done words.MoveToRear (args.Cell i ∷ []) s =
     done (with_cells x o (pairs_without i o.cells ++ (i, v) ∷ []) s) Empty)
 objects_done words.ReverseItems (args.Name x ∷ []) s =
     on_object s kinds.List x (λ o. done (with_cells x o (reverse o.cells) s) Empty)
+objects_done words.DictInsert (args.Name x ∷ args.Num k ∷ args.Num v ∷ []) s =
+    on_object s kinds.Dict x (λ o. dict_insert x k v o s (with_key k o.cells))
+objects_done words.Lookup (args.Name x ∷ args.Num k ∷ []) s =
+    on_object s kinds.Dict x (λ o. done s (number_line (number_of (with_key k o.cells))))
+objects_done words.Del (args.Name x ∷ args.Num k ∷ []) s =
+    on_object s kinds.Dict x (λ o. done (leaves x o (with_key k o.cells) s) Empty)
 objects_done words.Key (args.Cell i ∷ []) s =
     on_cell s kinds.Dict i (λ x o v. done s (Num (head_of v)))
+objects_done words.QueueInsert (args.Name x ∷ args.Num p ∷ args.Num v ∷ []) s =
+    on_object s kinds.Queue x (λ o. enters x o (o.cells ++ next (p ∷ v ∷ []) s ∷ []) s)
+objects_done words.FindMin (args.Name x ∷ []) s =
+    on_object s kinds.Queue x (λ o. done s (number_line (first_of (listed o))))
+objects_done words.DelMin (args.Name x ∷ []) s =
+    on_object s kinds.Queue x (λ o.
+    done (leaves x o (head_cell (listed o)) s) (min_line (head_cell (listed o))))
 objects_done words.Prio (args.Cell i ∷ []) s =
     on_cell s kinds.Queue i (λ x o v. done s (Num (head_of v)))
+objects_done words.Decrease (args.Cell i ∷ args.Num p ∷ []) s =
+    on_cell s kinds.Queue i (λ x o v. decrease i x o v p s)
 objects_done words.Inf (args.Cell i ∷ []) s =
     on_cell s kinds.DictOrQueue i (λ x o v. done s (Num (inf_of v)))
 objects_done words.ChangeInf (args.Cell i ∷ args.Num v ∷ []) s =

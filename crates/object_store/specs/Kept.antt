@@ -1,5 +1,5 @@
 -- Private: how the places and the pool of items stand for the objects.
-use Rattle.std.specs.Prelude.{◌≡◌, ℕ, ◌<◌, ◌≤◌, ◌⊎◌, List, [], ◌∷◌, ◌++◌, Option, Some, None, slice_get, slice_set}
+use Rattle.std.specs.Prelude.{◌≡◌, ℕ, ◌≤◌, ◌⊎◌, List, [], ◌∷◌, ◌++◌, Option, Some, None, slice_get, slice_set}
 use Rattle.std.specs.FinMap as finmap
 use Rattle.item_pool.specs.Contents.{Contents}
 use Rattle.item_list.specs.Items.{serials, value_at}
@@ -9,6 +9,7 @@ use Rattle.object_store.specs.declared.object.Object.{Object as Held}
 use Rattle.object_store.specs.declared.slots.Named.{Named}
 use Rattle.object_store.specs.State.{Cell, ObjectState}
 use Rattle.object_store.specs.Inner.{inner, made_in}
+use Rattle.object_store.specs.Near.{IsRising}
 use Rattle.object_store.specs.Slots.{objects_in, AreApart}
 
 abbrev pub Places : Type 0
@@ -34,8 +35,7 @@ pub record IsSound (made : ℕ) (n : Named) : Type 0 where
   pub few : made_in n.object ≤ made
   pub distinct : IsDistinct (serials (inner n.object))
   pub given : (s : ℕ) (c : Cell) → value_at s (inner n.object) ≡ Some c → s ≤ made_in n.object
-  pub rising : (s t : ℕ) (c d : Cell) → value_at s (inner n.object) ≡ Some c
-      → value_at t (inner n.object) ≡ Some d → s < t → c.0 < d.0
+  pub rising : IsRising (inner n.object)
 
 -- names are apart, and the pool has just the items of the objects
 pub record IsKept (places : Places) (cells : Contents Place) : Type 0 where

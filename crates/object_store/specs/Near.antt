@@ -1,15 +1,15 @@
 -- Private: which item is asked for by where it stands, by the serials that its container gave.
-use Rattle.std.specs.Prelude.{◌≡◌, ℕ, ℤ, true, List, [], ◌∷◌, ◌++◌, map, Option, Some, ⊤, option_map, MatchOption}
+use Rattle.std.specs.Prelude.{◌≡◌, ℕ, ℤ, ◌<◌, true, List, [], ◌∷◌, ◌++◌, map, Option, Some, ⊤, option_map, MatchOption}
 use Rattle.std.specs.FinMap as finmap
 use Rattle.item_pool.specs.declared.pool.Item.{Item}
 use Rattle.item_ring.specs.RingLists.{IsDistinct, front, back}
 use Rattle.item_list.specs.Items.{Items, serials, serial_of, value_at, HasBetween}
-use Rattle.item_dict.specs.Contents.{Contents as DictOf, HasKey}
+use Rattle.item_dict.specs.Contents.{Contents as DictOf, HasKey, IsAbsent}
 use Rattle.item_dict.specs.Order.{IsLeast, IsGreatest, IsNextAfter, IsNextBefore, IsLastUpTo, IsFirstFrom}
 use Rattle.script_text.specs.declared.form.Kinds.{Kinds}
 use Rattle.script_text.specs.declared.form.Kinds.TheVariants as kinds
 use Rattle.object_store.specs.declared.near.Near.{Near}
-use Rattle.object_store.specs.declared.near.Near.TheVariants.{First, Last, Behind, Before, RoundBehind, RoundBefore}
+use Rattle.object_store.specs.declared.near.Near.TheVariants.{First, Last, WithKey, Least, Behind, Before, RoundBehind, RoundBefore}
 use Rattle.object_store.specs.declared.near.Neighbour.{Neighbour}
 use Rattle.object_store.specs.declared.near.Neighbour.TheVariants.{Succ, Pred, CyclicSucc, CyclicPred}
 use Rattle.object_store.specs.declared.near.Sought.{Sought}
@@ -17,13 +17,16 @@ use Rattle.object_store.specs.declared.near.Sought.TheVariants as sought
 use Rattle.object_store.specs.declared.object.Entry.{Entry}
 use Rattle.object_store.specs.declared.object.Object.{Object as Held}
 use Rattle.object_store.specs.State.{Cell}
-use Rattle.object_store.specs.Cells.{first_of, last_of}
+use Rattle.object_store.specs.Cells.{first_of, last_of, with_key, in_order}
+use Rattle.object_store.specs.Commands.{number_of}
 use Rattle.object_store.specs.Views.{is_of}
 use Rattle.object_store.specs.Inner.{Inner, inner, kind_of, cell_in, cells_in}
 
 abbrev pub near_sought : Sought → Near
 near_sought sought.First = First
 near_sought sought.Last = Last
+near_sought (sought.WithKey k) = WithKey k
+near_sought sought.Least = Least
 
 abbrev pub near_of : Neighbour → Item → Near
 near_of Succ it = Behind it
@@ -35,6 +38,8 @@ near_of CyclicPred it = RoundBefore it
 abbrev pub near_kinds : Near → Kinds
 near_kinds First = kinds.ListOrDict
 near_kinds Last = kinds.ListOrDict
+near_kinds (WithKey k) = kinds.Dict
+near_kinds Least = kinds.Queue
 near_kinds (Behind it) = kinds.ListOrDict
 near_kinds (Before it) = kinds.ListOrDict
 near_kinds (RoundBehind it) = kinds.List
@@ -47,15 +52,23 @@ HasThere it xs = (c : Cell) × (value_at it.serial xs ≡ Some c)
 abbrev pub IsPlaced : Near → List Inner → Type 0
 IsPlaced First xs = ⊤
 IsPlaced Last xs = ⊤
+IsPlaced (WithKey k) xs = ⊤
+IsPlaced Least xs = ⊤
 IsPlaced (Behind it) xs = HasThere it xs
 IsPlaced (Before it) xs = HasThere it xs
 IsPlaced (RoundBehind it) xs = HasThere it xs
 IsPlaced (RoundBefore it) xs = HasThere it xs
 
+-- items of greater serials have greater numbers
+abbrev pub IsRising : List Inner → Type 0
+IsRising xs =
+    (s t : ℕ) (c d : Cell) → value_at s xs ≡ Some c → value_at t xs ≡ Some d → s < t → c.0 < d.0
+
 -- the object has what is asked for
 pub record CanFind (near : Near) (o : Held) : Type 0 where
   pub placed : IsPlaced near (inner o)
   pub distinct : IsDistinct (serials (inner o))
+  pub rising : IsRising (inner o)
   pub kind : is_of (near_kinds near) (kind_of o) ≡ true
 
 -- the list has that item there
@@ -71,6 +84,7 @@ IsItem (RoundBehind it) l r =
     → serial_of r ≡ front (rs ++ bs ++ it.serial ∷ [])
 IsItem (RoundBefore it) l r =
     (bs rs : List ℕ) → HasBetween l it.serial bs rs → serial_of r ≡ back (it.serial ∷ rs ++ bs)
+IsItem near l r = ⊥
 
 -- the dictionary has that item there, in the order of the keys
 abbrev pub IsKeyed : Near → DictOf Entry → Option Item → Type 0
@@ -78,6 +92,7 @@ IsKeyed First d r =
     MatchOption r (d.triples ≡ finmap.empty) (λ n. (k : ℤ) × IsLeast (HasKey d) n.serial k)
 IsKeyed Last d r =
     MatchOption r (d.triples ≡ finmap.empty) (λ n. (k : ℤ) × IsGreatest (HasKey d) n.serial k)
+IsKeyed (WithKey k) d r = MatchOption r (IsAbsent d k) (λ n. HasKey d n.serial k)
 IsKeyed (Behind it) d r =
     (k : ℤ) × HasKey d it.serial k
     × MatchOption r (IsLastUpTo (HasKey d) k) (λ n. (j : ℤ) × IsNextAfter (HasKey d) k n.serial j)
@@ -95,6 +110,8 @@ number_at xs s = option_map (λ (c : Cell). c.0) (value_at s xs)
 abbrev pub IsNumber : Near → Held → Option ℕ → Type 0
 IsNumber First o r = r ≡ first_of (cells_in o)
 IsNumber Last o r = r ≡ last_of (cells_in o)
+IsNumber (WithKey k) o r = r ≡ number_of (with_key k (cells_in o))
+IsNumber Least o r = r ≡ first_of (in_order (cells_in o))
 IsNumber (Behind it) o r =
     (bs rs : List Inner) (c : Cell) → inner o ≡ bs ++ (it.serial, c) ∷ rs
     → r ≡ first_of (map cell_in rs)

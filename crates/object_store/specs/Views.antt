@@ -7,6 +7,7 @@ use Rattle.script_text.specs.declared.form.Kinds.{Kinds}
 use Rattle.script_text.specs.declared.form.Kinds.TheVariants as kinds
 use Rattle.object_store.specs.declared.kind.ObjectKind.{ObjectKind}
 use Rattle.object_store.specs.declared.kind.ObjectKind.TheVariants as sorts
+use Rattle.object_store.specs.declared.kind.Sort.TheVariants.{Nodes, Edges}
 use Rattle.object_store.specs.State.{Object, ObjectState}
 
 -- an object of the kind is one of these
@@ -18,7 +19,13 @@ is_of kinds.ListOrDict sorts.List = true
 is_of kinds.ListOrDict sorts.Dict = true
 is_of kinds.DictOrQueue sorts.Dict = true
 is_of kinds.DictOrQueue sorts.Queue = true
-is_of kinds.Container kind = true
+is_of kinds.Container sorts.List = true
+is_of kinds.Container sorts.Dict = true
+is_of kinds.Container sorts.Queue = true
+is_of kinds.NodeValues (sorts.Array Nodes) = true
+is_of kinds.NodeValues (sorts.Map Nodes) = true
+is_of kinds.EdgeValues (sorts.Array Edges) = true
+is_of kinds.EdgeValues (sorts.Map Edges) = true
 is_of kinds.Any kind = true
 is_of kinds kind = false
 

@@ -1,14 +1,18 @@
 -- The words of commands that are one call with a parameter, and the kinds of objects that they
 -- take.
-use Rattle.std.specs.Prelude.{ℤ, List}
+use Rattle.std.specs.Prelude.{ℤ, List, [], ◌∷◌}
+use Rattle.script_text.specs.declared.argument.Arg.{Arg}
+use Rattle.script_text.specs.declared.argument.Arg.TheVariants as args
 use Rattle.script_text.specs.declared.form.Kinds.{Kinds}
 use Rattle.script_text.specs.declared.form.Kinds.TheVariants as kinds
 use Rattle.object_store.specs.declared.entrance.End.{End}
 use Rattle.object_store.specs.declared.entrance.End.TheVariants as ends
+use Rattle.object_store.specs.declared.entrance.Side.{Side}
+use Rattle.object_store.specs.declared.entrance.Side.TheVariants as sides
 use Rattle.object_store.specs.declared.near.Neighbour.{Neighbour}
 use Rattle.object_store.specs.declared.near.Neighbour.TheVariants.{Succ, Pred, CyclicSucc, CyclicPred}
 use Rattle.object_store.specs.declared.near.Sought.{Sought}
-use Rattle.object_store.specs.declared.near.Sought.TheVariants.{First, Last}
+use Rattle.object_store.specs.declared.near.Sought.TheVariants.{First, Last, WithKey, Least}
 use Rattle.object_store.specs.declared.part.Reading.{Reading}
 use Rattle.object_store.specs.declared.part.Reading.TheVariants as readings
 use Rattle.object_store.specs.declared.part.Writing.{Writing}
@@ -44,6 +48,14 @@ abbrev pub writing_kinds : Writing → Kinds
 writing_kinds writings.Contents = kinds.List
 writing_kinds writings.Information = kinds.DictOrQueue
 
+abbrev pub putting_word : End → ObjectWord
+putting_word ends.Front = words.Push
+putting_word ends.Rear = words.Append
+
+abbrev pub inserting_word : Side → ObjectWord
+inserting_word sides.Before = words.InsertBefore
+inserting_word sides.Behind = words.InsertBehind
+
 abbrev pub moving_word : End → ObjectWord
 moving_word ends.Front = words.MoveToFront
 moving_word ends.Rear = words.MoveToRear
@@ -51,11 +63,20 @@ moving_word ends.Rear = words.MoveToRear
 abbrev pub sought_word : Sought → ObjectWord
 sought_word First = words.First
 sought_word Last = words.Last
+sought_word (WithKey k) = words.Lookup
+sought_word Least = words.FindMin
+
+-- what is named behind the object
+abbrev pub sought_args : Sought → List Arg
+sought_args (WithKey k) = args.Num k ∷ []
+sought_args what = []
 
 -- the objects that are sought in
 abbrev pub sought_kinds : Sought → Kinds
 sought_kinds First = kinds.ListOrDict
 sought_kinds Last = kinds.ListOrDict
+sought_kinds (WithKey k) = kinds.Dict
+sought_kinds Least = kinds.Queue
 
 abbrev pub neighbour_word : Neighbour → ObjectWord
 neighbour_word Succ = words.Succ

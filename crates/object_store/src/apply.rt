@@ -1,5 +1,5 @@
 //! A command on objects, by its word.
-ghost use Rattle.std.specs.Prelude.{◌≡◌, List, [], ◌∷◌};
+ghost use Rattle.std.specs.Prelude.{◌≡◌, List, [], ◌∷◌, length};
 ghost use Rattle.script_text.specs.declared.argument.Arg.TheVariants as args;
 ghost use Rattle.script_text.specs.declared.word.Word.TheVariants as commands;
 ghost use Rattle.script_text.specs.Table.{forms_of, may_lack_memory, IsWhole};
@@ -9,7 +9,7 @@ ghost use Rattle.object_store.specs.Commands.{objects_done};
 ghost use Rattle.object_store.specs.Leads.{Leads};
 ghost use Rattle.object_store.specs.Met.{AreMet};
 
-use crate::entrance::End;
+use crate::entrance::{End, Side};
 use crate::kind::ObjectKind;
 use crate::near::{Neighbour, Sought};
 use crate::objects::Objects;
@@ -29,12 +29,66 @@ impl Objects {
         ensures quiet { IsQuiet (may_lack_memory (commands.Object word))
             self.old result self.new }
     {
+        match args.len() {
+            1 => self.apply_to_one(word, args),
+            2 => self.apply_to_two(word, args),
+            3 => self.apply_to_three(word, args),
+            // A whole command has so many arguments.
+            _ => unreachable!(),
+        }
+    }
+
+    /// A command with one argument.
+    fn apply_to_one(&mut self, word: ObjectWord, args: &[Arg]) -> Reply
+        requires whole { IsWhole (record { word = commands.Object word; args = args.now }) }
+        requires met { AreMet self.old (forms_of (commands.Object word)) args.now }
+        requires length { length args.now ≡ 1 }
+        ensures does { Leads (may_lack_memory (commands.Object word))
+            (objects_done word args.now self.old) self.old result self.new }
+        ensures named { IsNamed result }
+        ensures quiet { IsQuiet (may_lack_memory (commands.Object word))
+            self.old result self.new }
+    {
         match args {
             [Arg::Name(name)] => self.apply_to(word, name.as_slice()),
-            [Arg::Name(name), Arg::Num(value)] => self.apply_with(word, name.as_slice(), *value),
             [Arg::Cell(number)] => self.apply_at(word, *number),
+            _ => unreachable!(),
+        }
+    }
+
+    /// A command with two arguments.
+    fn apply_to_two(&mut self, word: ObjectWord, args: &[Arg]) -> Reply
+        requires whole { IsWhole (record { word = commands.Object word; args = args.now }) }
+        requires met { AreMet self.old (forms_of (commands.Object word)) args.now }
+        requires length { length args.now ≡ 2 }
+        ensures does { Leads (may_lack_memory (commands.Object word))
+            (objects_done word args.now self.old) self.old result self.new }
+        ensures named { IsNamed result }
+        ensures quiet { IsQuiet (may_lack_memory (commands.Object word))
+            self.old result self.new }
+    {
+        match args {
+            [Arg::Name(name), Arg::Num(value)] => self.apply_with(word, name.as_slice(), *value),
             [Arg::Cell(number), Arg::Num(value)] => self.apply_beside(word, *number, *value),
-            // A whole command has one of these forms.
+            _ => unreachable!(),
+        }
+    }
+
+    /// A command with three arguments.
+    fn apply_to_three(&mut self, word: ObjectWord, args: &[Arg]) -> Reply
+        requires whole { IsWhole (record { word = commands.Object word; args = args.now }) }
+        requires met { AreMet self.old (forms_of (commands.Object word)) args.now }
+        requires length { length args.now ≡ 3 }
+        ensures does { Leads (may_lack_memory (commands.Object word))
+            (objects_done word args.now self.old) self.old result self.new }
+        ensures named { IsNamed result }
+        ensures quiet { IsQuiet (may_lack_memory (commands.Object word))
+            self.old result self.new }
+    {
+        match args {
+            [Arg::Name(name), Arg::Num(first), Arg::Num(second)] => {
+                self.apply_with_two(word, name.as_slice(), *first, *second)
+            }
             _ => unreachable!(),
         }
     }
@@ -58,8 +112,11 @@ impl Objects {
             ObjectWord::MakeQueue => self.make(ObjectKind::Queue, name),
             ObjectWord::DropObject => self.drop_object(name),
             ObjectWord::Size => self.size(name),
+            ObjectWord::Items => self.items(name),
             ObjectWord::First => self.find(Sought::First, name),
             ObjectWord::Last => self.find(Sought::Last, name),
+            ObjectWord::FindMin => self.find(Sought::Least, name),
+            ObjectWord::DelMin => self.del_min(name),
             ObjectWord::ReverseItems => self.reverse_items(name),
             _ => unreachable!(),
         }
@@ -81,8 +138,32 @@ impl Objects {
             self.old result self.new }
     {
         match word {
-            ObjectWord::Push => self.push(name, value),
-            ObjectWord::Append => self.append(name, value),
+            ObjectWord::Push => self.put(End::Front, name, value),
+            ObjectWord::Lookup => self.find(Sought::WithKey(value), name),
+            ObjectWord::Del => self.del(name, value),
+            ObjectWord::Append => self.put(End::Rear, name, value),
+            _ => unreachable!(),
+        }
+    }
+
+    /// A command that names an object, and then two numbers.
+    fn apply_with_two(&mut self, word: ObjectWord, name: &[u8], first: i64, second: i64) -> Reply
+        requires whole { IsWhole (record {
+          word = commands.Object word;
+          args = args.Name name.now ∷ args.Num first ∷ args.Num second ∷ [];
+        }) }
+        requires met { AreMet self.old (forms_of (commands.Object word))
+            (args.Name name.now ∷ args.Num first ∷ args.Num second ∷ []) }
+        ensures does { Leads (may_lack_memory (commands.Object word))
+            (objects_done word (args.Name name.now ∷ args.Num first ∷ args.Num second ∷ [])
+            self.old) self.old result self.new }
+        ensures named { IsNamed result }
+        ensures quiet { IsQuiet (may_lack_memory (commands.Object word))
+            self.old result self.new }
+    {
+        match word {
+            ObjectWord::DictInsert => self.dict_insert(name, first, second),
+            ObjectWord::QueueInsert => self.queue_insert(name, first, second),
             _ => unreachable!(),
         }
     }
@@ -132,9 +213,10 @@ impl Objects {
             self.old result self.new }
     {
         match word {
-            ObjectWord::InsertBefore => self.insert_before(number, value),
-            ObjectWord::InsertBehind => self.insert_behind(number, value),
+            ObjectWord::InsertBefore => self.insert(Side::Before, number, value),
+            ObjectWord::InsertBehind => self.insert(Side::Behind, number, value),
             ObjectWord::Assign => self.write(Writing::Contents, number, value),
+            ObjectWord::Decrease => self.decrease(number, value),
             ObjectWord::ChangeInf => self.write(Writing::Information, number, value),
             _ => unreachable!(),
         }

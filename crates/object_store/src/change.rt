@@ -33,6 +33,7 @@ impl Object {
             Object::List(list) => change_list(list, change),
             Object::Dict(dict) => change_dict(dict, change),
             Object::Queue(queue) => change_queue(queue, change),
+            Object::Values(_) => unreachable!(),
         }
     }
 }

@@ -84,6 +84,7 @@ impl Object {
             Object::List(list) => first_number(list),
             Object::Dict(dict) => least_number(dict),
             Object::Queue(queue) => next_number(queue),
+            Object::Values(_) => None,
         }
     }
 }

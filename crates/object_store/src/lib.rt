@@ -1,19 +1,20 @@
 //! The objects of a session by name: lists, dictionaries and queues, whose items have one
-//! numbering.
+//! numbering, and arrays and maps over the nodes and the edges of the graph.
 //!
-//! `specs/State.antt` has the state, `specs/Views.antt` which object has a name or an item, and
-//! `specs/Commands.antt` what each command does and answers, row by row. The rows of which
-//! `Objects` has a method are served; the others are stated alone.
+//! `specs/State.antt` has the state, `specs/Views.antt` which object has a name or an item,
+//! `specs/Commands.antt` what each command on containers does and answers, row by row, and
+//! `specs/Values.antt` the same of arrays and maps.
 //!
 //! - `kind`: the kinds of objects.
-//! - `object`: a container whose entries know their numbers; `entrance`: how items come in.
+//! - `object`: a container whose entries know their numbers, or an array or a map; `entrance`: how
+//!   items come in; `values`: arrays and maps.
 //! - `slots`: the places of objects, each of which is free or has a named object.
 //! - `parts`: what comes into the places and the pool of items at once, and what goes out of both.
 //! - `part` and `look`: what is read of an item and written to it; `near`: the items at the ends of
-//!   a list, and neighbours.
+//!   a list, and neighbours; `shown`: the items in order, as they are shown.
 //! - `change`: how a container changes that keeps its items; `drop`: how an object goes.
-//! - `edits` and `objects`: the commands, and the session's objects; `apply`: a command by its
-//!   word.
+//! - `edits`, `tables` and `objects`: the commands, and the session's objects; `apply`: a command
+//!   by its word.
 //!
 //! An item is found by its number in one look into a pool, which has the place of its object and
 //! the item that the container gave it. A container's own serials rise as the numbers do, so the
@@ -27,17 +28,24 @@ mod drop;
 mod edits;
 mod entrance;
 mod kind;
+mod listed;
 mod look;
 mod near;
 mod object;
 mod objects;
 mod part;
 mod parts;
+mod shown;
 mod slots;
+mod tables;
+#[cfg(test)]
+mod tests;
+mod values;
 
 pub use entrance::{End, Side};
-pub use kind::ObjectKind;
+pub use kind::{ObjectKind, Sort};
+pub use listed::ValuesRefusal;
 pub use near::{Neighbour, Sought};
 pub use objects::{CELL_LIMIT, OBJECT_LIMIT, Objects};
 pub use part::{Reading, Writing};
-pub use script_text::ObjectWord;
+pub use script_text::{ObjectWord, ValueWord};

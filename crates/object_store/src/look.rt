@@ -26,6 +26,7 @@ impl Object {
             },
             Object::Dict(dict) => read_dict(dict, what, item),
             Object::Queue(queue) => read_queue(queue, what, item),
+            Object::Values(_) => unreachable!(),
         }
     }
 }

@@ -5,7 +5,7 @@ ghost use Rattle.item_list.specs.Items.{serials, serial_of};
 ghost use Rattle.object_store.specs.declared.object.Object.TheVariants as held;
 ghost use Rattle.object_store.specs.Inner.{inner};
 ghost use Rattle.object_store.specs.Kept.{HasAt};
-ghost use Rattle.object_store.specs.Near.{near_sought, near_of, number_at, CanFind, IsItem, IsKeyed, IsNumber, IsPlaced};
+ghost use Rattle.object_store.specs.Near.{near_sought, near_of, number_at, CanFind, IsItem, IsKeyed, IsNumber};
 
 use crate::object::{Entry, Object};
 use crate::slots::Named;
@@ -20,6 +20,10 @@ pub enum Sought {
     First,
     /// The last item of a list, or that of the greatest key of a dictionary.
     Last,
+    /// The item of a key of a dictionary.
+    WithKey(i64),
+    /// The item of a queue that goes first.
+    Least,
 }
 
 /// A neighbour of an item.
@@ -40,6 +44,8 @@ pub enum Neighbour {
 pub(crate) enum Near {
     First,
     Last,
+    WithKey(i64),
+    Least,
     Behind(Item),
     Before(Item),
     RoundBehind(Item),
@@ -68,6 +74,8 @@ impl Sought {
         match self {
             Sought::First => Near::First,
             Sought::Last => Near::Last,
+            Sought::WithKey(key) => Near::WithKey(key),
+            Sought::Least => Near::Least,
         }
     }
 }
@@ -81,7 +89,8 @@ impl Object {
         match self {
             Object::List(list) => self.number_of(item_in(list, near)),
             Object::Dict(dict) => self.number_of(item_by_key(dict, near)),
-            Object::Queue(_) => unreachable!(),
+            Object::Queue(queue) => self.number_of(queue.find_min()),
+            Object::Values(_) => None,
         }
     }
 
@@ -110,13 +119,14 @@ impl Object {
             Object::List(list) => list.contents(item),
             Object::Dict(dict) => dict.inf(item),
             Object::Queue(queue) => queue.inf(item),
+            Object::Values(_) => Err(Gone::Unknown),
         }
     }
 }
 
 /// The item of a list that stands there, if there is one.
 fn item_in(list: &List<Entry>, near: Near) -> Option<Item>
-    requires { IsPlaced near (inner (held.List list.now)) }
+    requires { CanFind near (held.List list.now) }
     ensures { IsItem near list.now result }
 {
     match near {
@@ -138,6 +148,7 @@ fn item_in(list: &List<Entry>, near: Near) -> Option<Item>
             Ok(near) => Some(near),
             Err(_) => unreachable!(),
         },
+        Near::WithKey(_) | Near::Least => unreachable!(),
     }
 }
 
@@ -149,6 +160,7 @@ fn item_by_key(dict: &Dict<Entry>, near: Near) -> Option<Item>
     match near {
         Near::First => dict.min(),
         Near::Last => dict.max(),
+        Near::WithKey(key) => dict.lookup(key),
         Near::Behind(item) => match dict.succ(item) {
             Ok(near) => near,
             Err(_) => unreachable!(),
@@ -157,7 +169,7 @@ fn item_by_key(dict: &Dict<Entry>, near: Near) -> Option<Item>
             Ok(near) => near,
             Err(_) => unreachable!(),
         },
-        Near::RoundBehind(_) | Near::RoundBefore(_) => unreachable!(),
+        Near::RoundBehind(_) | Near::RoundBefore(_) | Near::Least => unreachable!(),
     }
 }
 

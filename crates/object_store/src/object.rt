@@ -1,9 +1,12 @@
-//! An object: one of the containers, whose items know their numbers.
-ghost use Rattle.std.specs.Prelude.{◌≡◌, [], length};
-ghost use Rattle.object_store.specs.Inner.{kind_of, cells_in, inner, made_in};
+//! An object: a container, whose items know their numbers, or an array or a map.
+ghost use Rattle.std.specs.Prelude.{◌≡◌, [], None, true, length};
+ghost use Rattle.object_store.specs.Inner.{kind_of, cells_in, inner, made_in, values_in};
+ghost use Rattle.script_text.specs.declared.form.Kinds.TheVariants.{Container};
+ghost use Rattle.object_store.specs.Views.{is_of};
 ghost use Rattle.object_store.specs.Entrance.{HasIt, Leaves};
 
 use crate::kind::ObjectKind;
+use crate::values::Values;
 use item_dict::Dict;
 use item_list::List;
 use item_pool::Item;
@@ -23,12 +26,15 @@ pub(crate) enum Object {
     List(List<Entry>),
     Dict(Dict<Entry>),
     Queue(Queue<Entry>),
+    Values(Values),
 }
 
 impl Object {
     /// A container of the kind without items. It takes no memory.
     pub(crate) fn new(alloc: Global, kind: ObjectKind) -> Object
+        requires { is_of Container kind ≡ true }
         ensures kind { kind_of result ≡ kind }
+        ensures values { values_in result ≡ None }
         ensures empty { inner result ≡ [] }
         ensures start { made_in result ≡ 0 }
     {
@@ -36,6 +42,7 @@ impl Object {
             ObjectKind::List => Object::List(List::new(alloc)),
             ObjectKind::Dict => Object::Dict(Dict::new(alloc)),
             ObjectKind::Queue => Object::Queue(Queue::new(alloc)),
+            ObjectKind::Array(_) | ObjectKind::Map(_) => unreachable!(),
         }
     }
 
@@ -46,6 +53,7 @@ impl Object {
             Object::List(_) => ObjectKind::List,
             Object::Dict(_) => ObjectKind::Dict,
             Object::Queue(_) => ObjectKind::Queue,
+            Object::Values(values) => values.kind(),
         }
     }
 
@@ -67,6 +75,7 @@ impl Object {
                 Ok(_) => {}
                 Err(_) => unreachable!(),
             },
+            Object::Values(_) => unreachable!(),
         }
     }
 
@@ -78,6 +87,7 @@ impl Object {
             Object::List(list) => list.len(),
             Object::Dict(dict) => dict.len(),
             Object::Queue(queue) => queue.len(),
+            Object::Values(_) => 0,
         }
     }
 }

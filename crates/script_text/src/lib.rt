@@ -11,7 +11,7 @@ pub use argument::Arg;
 pub use command::Command;
 pub use form::{Form, Kinds, Sight};
 pub use line::{LINE_LIMIT, Line, LineRefusal, parse_line};
-pub use word::{EditWord, FileWord, LookWord, ObjectWord, QueryWord, Word};
+pub use word::{EditWord, FileWord, LookWord, ObjectWord, QueryWord, ValueWord, Word};
 
 mod argument;
 mod command;

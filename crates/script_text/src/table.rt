@@ -6,7 +6,7 @@ ghost use Rattle.script_text.specs.Table.{table, entry_of as the_entry, may_begi
 use crate::argument::Misfit;
 use crate::form::{Form, Kinds, Sight, read_arg};
 use crate::token::Token;
-use crate::word::{EditWord, FileWord, LookWord, ObjectWord, QueryWord, Word};
+use crate::word::{EditWord, FileWord, LookWord, ObjectWord, QueryWord, ValueWord, Word};
 
 /// Whether running a command takes memory, so that it may be answered by want of memory.
 #[derive(Clone, Copy, Debug, PartialEq, Eq)]
@@ -36,6 +36,8 @@ const LIVE_EDGE: Form = Form::Edge(Sight::Live);
 
 const ELEMENT: Form = Form::Element(Sight::Visible);
 
+const LIVE: Form = Form::Element(Sight::Live);
+
 const LABEL: Form = Form::OptionalLabel;
 
 const NEW_LABEL: Form = Form::Label;
@@ -52,6 +54,12 @@ const LIST: Form = Form::Object(Kinds::List);
 
 const ORDERED: Form = Form::Object(Kinds::ListOrDict);
 
+const DICT: Form = Form::Object(Kinds::Dict);
+
+const QUEUE: Form = Form::Object(Kinds::Queue);
+
+const VALUES: Form = Form::Object(Kinds::ElementValues);
+
 const CELL: Form = Form::Cell(Kinds::Container);
 
 const LIST_CELL: Form = Form::Cell(Kinds::List);
@@ -66,6 +74,8 @@ const INFORMED_CELL: Form = Form::Cell(Kinds::DictOrQueue);
 
 const NUM: Form = Form::Num;
 
+const NUMBERS: Form = Form::NumOrLabels;
+
 /// Writes the rows of a table, one a line: the spelling, the word, what is asked of each argument,
 /// and the memory.
 macro_rules! rows {
@@ -78,7 +88,7 @@ macro_rules! rows {
 pub(crate) use rows;
 
 /// The table. All that is said of a command before it runs is said here.
-pub(crate) const TABLE: [Entry; 64] = rows! {
+pub(crate) const TABLE: [Entry; 78] = rows! {
     "node"            Edit(EditWord::Node)             [LABEL]              Taken;
     "edge"            Edit(EditWord::Edge)             [NODE, NODE, LABEL]  Taken;
     "edge_before"     Edit(EditWord::EdgeBefore)       [EDGE, NODE, LABEL]  Taken;
@@ -122,6 +132,7 @@ pub(crate) const TABLE: [Entry; 64] = rows! {
     "queue"           Object(ObjectWord::MakeQueue)    [NEW_NAME]           Taken;
     "drop"            Object(ObjectWord::DropObject)   [OBJECT]             NotTaken;
     "size"            Object(ObjectWord::Size)         [CONTAINER]          NotTaken;
+    "items"           Object(ObjectWord::Items)        [CONTAINER]          TakenByReply;
     "push"            Object(ObjectWord::Push)         [LIST, NUM]          Taken;
     "append"          Object(ObjectWord::Append)       [LIST, NUM]          Taken;
     "insert_before"   Object(ObjectWord::InsertBefore) [LIST_CELL, NUM]     Taken;
@@ -137,11 +148,24 @@ pub(crate) const TABLE: [Entry; 64] = rows! {
     "move_to_front"   Object(ObjectWord::MoveToFront)  [LIST_CELL]          NotTaken;
     "move_to_rear"    Object(ObjectWord::MoveToRear)   [LIST_CELL]          NotTaken;
     "reverse_items"   Object(ObjectWord::ReverseItems) [LIST]               NotTaken;
+    "dict_insert"     Object(ObjectWord::DictInsert)   [DICT, NUM, NUM]     Taken;
+    "lookup"          Object(ObjectWord::Lookup)       [DICT, NUM]          NotTaken;
+    "del"             Object(ObjectWord::Del)          [DICT, NUM]          NotTaken;
     "key"             Object(ObjectWord::Key)          [DICT_CELL]          NotTaken;
+    "queue_insert"    Object(ObjectWord::QueueInsert)  [QUEUE, NUM, NUM]    Taken;
+    "find_min"        Object(ObjectWord::FindMin)      [QUEUE]              NotTaken;
+    "del_min"         Object(ObjectWord::DelMin)       [QUEUE]              NotTaken;
     "prio"            Object(ObjectWord::Prio)         [QUEUE_CELL]         NotTaken;
+    "decrease"        Object(ObjectWord::Decrease)     [QUEUE_CELL, NUM]    NotTaken;
     "inf"             Object(ObjectWord::Inf)          [INFORMED_CELL]      NotTaken;
     "change_inf"      Object(ObjectWord::ChangeInf)    [INFORMED_CELL, NUM] NotTaken;
     "del_item"        Object(ObjectWord::DelItem)      [CELL]               NotTaken;
+    "node_array"      Value(ValueWord::MakeNodeArray)  [NEW_NAME, NUMBERS]  Taken;
+    "edge_array"      Value(ValueWord::MakeEdgeArray)  [NEW_NAME, NUMBERS]  Taken;
+    "node_map"        Value(ValueWord::MakeNodeMap)    [NEW_NAME, NUM]      Taken;
+    "edge_map"        Value(ValueWord::MakeEdgeMap)    [NEW_NAME, NUM]      Taken;
+    "get"             Value(ValueWord::Get)            [VALUES, LIVE]       NotTaken;
+    "set"             Value(ValueWord::Set)            [VALUES, LIVE, NUM]  Taken;
     "reach"           Query(QueryWord::Reach)          [NODE, NODE]         TakenByReply;
 };
 

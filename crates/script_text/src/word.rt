@@ -61,6 +61,7 @@ pub enum ObjectWord {
     MakeQueue,
     DropObject,
     Size,
+    Items,
     Push,
     Append,
     InsertBefore,
@@ -76,11 +77,29 @@ pub enum ObjectWord {
     MoveToFront,
     MoveToRear,
     ReverseItems,
+    DictInsert,
+    Lookup,
+    Del,
     Key,
+    QueueInsert,
+    FindMin,
+    DelMin,
     Prio,
+    Decrease,
     Inf,
     ChangeInf,
     DelItem,
+}
+
+/// The word of a command on an array or a map over the nodes or the edges of the graph.
+#[derive(Clone, Copy, Debug, PartialEq, Eq)]
+pub enum ValueWord {
+    MakeNodeArray,
+    MakeEdgeArray,
+    MakeNodeMap,
+    MakeEdgeMap,
+    Get,
+    Set,
 }
 
 /// The word of a command that asks about the graph.
@@ -96,5 +115,6 @@ pub enum Word {
     Look(LookWord),
     File(FileWord),
     Object(ObjectWord),
+    Value(ValueWord),
     Query(QueryWord),
 }

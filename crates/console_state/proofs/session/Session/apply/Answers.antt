@@ -1,5 +1,5 @@
-use Rattle.script_text.specs.declared.word.Word.TheVariants.{Edit, Look, Object, Query}
-use Rattle.console_state.proofs.Cleared.{cleared, objects-cleared, kind-met}
+use Rattle.script_text.specs.declared.word.Word.TheVariants.{Edit, Look, Object, Value, Query}
+use Rattle.console_state.proofs.Cleared.{cleared, objects-cleared, live-cleared, kind-met}
 use Rattle.console_state.proofs.session.Session.apply.Goals as goal
 
 pub edit-requires-clause-met : goal.edit-requires-clause-met
@@ -30,3 +30,15 @@ change_objects-requires-clause-met g c = objects-cleared c.args.self.now c.word.
     c.forms.result.now c.args-2.result.now (Object c.in-Object.word) c.args.command.now
     c.args-in-Object.result.now c.in_default.ensures.first c.forms.ensures c.args-2.ensures
     c.in-Object.ensures c.args-in-Object.ensures
+
+pub change_values-requires-clause-met : goal.change_values-requires-clause-met
+change_values-requires-clause-met g c = objects-cleared c.args.self.now c.word.result
+    c.forms.result.now c.args-2.result.now (Value c.in-Value.word) c.args.command.now
+    c.args-in-Value.result.now c.in_default.ensures.first c.forms.ensures c.args-2.ensures
+    c.in-Value.ensures c.args-in-Value.ensures
+
+pub change_values-requires-clause-live : goal.change_values-requires-clause-live
+change_values-requires-clause-live g c = live-cleared c.args.self.now c.word.result
+    c.forms.result.now c.args-2.result.now (Value c.in-Value.word) c.args.command.now
+    c.args-in-Value.result.now c.in_default.ensures.first c.forms.ensures c.args-2.ensures
+    c.in-Value.ensures c.args-in-Value.ensures c.requires

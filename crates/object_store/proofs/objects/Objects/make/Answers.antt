@@ -1,50 +1,13 @@
--- The object comes into a free place.
-use Rattle.std.proofs.Common.{◌≡◌, ◌≢◌, None, refl, sym, ap, subst, ◌∙◌, inl, inr}
-use Rattle.std.specs.FinMap as finmap
-use Rattle.script_text.specs.declared.form.Kinds.TheVariants.{Any}
-use Rattle.object_store.specs.declared.objects.TheConstants.{OBJECT_LIMIT}
-use Rattle.object_store.specs.declared.slots.Named.{Named}
-use Rattle.object_store.specs.State.{ObjectState}
-use Rattle.object_store.specs.Views.{has_object}
-use Rattle.object_store.specs.Slots.{found}
-use Rattle.object_store.specs.Kept.{Places, state_of, IsKept}
-use Rattle.object_store.proofs.Makes.{kept_put, made_state, none_named, count_is}
-use Rattle.object_store.proofs.Looks.{make_full}
+-- The new container has no items.
+use Rattle.std.proofs.Common.{true, map, subst}
+use Rattle.reply_text.specs.Outcome.{Gives}
+use Rattle.object_store.specs.State.{Object}
+use Rattle.object_store.specs.Commands.{comes_in}
+use Rattle.object_store.specs.Inner.{cell_in}
 use Rattle.object_store.proofs.objects.Objects.make.Goals as goal
-use Rattle.object_store.proofs.objects.Objects.make.Goals.{in-Ok-put, in-Err}
-
-pub returns-then-count-eq-OBJECT_LIMIT-clause-gives : goal.returns-then-count-eq-OBJECT_LIMIT-clause-gives
-returns-then-count-eq-OBJECT_LIMIT-clause-gives c =
-    let a = c.self.inside in
-    let full : finmap.len c.args.self.now.objects ≡ OBJECT_LIMIT =
-    ap (λ (s : ObjectState). finmap.len s.objects) (sym c.self.view_is)
-    ∙ count_is a.slots.items c.as_slice.result.now a.cells c.self.invariant c.as_slice.ensures.value ∙ sym c.count.ensures ∙ c.if-count-eq-OBJECT_LIMIT.true in
-    inr (sym (make_full c.args.kind c.args.name.now c.args.self.now full))
-
-abbrev none_there : (c : goal.Joined-put) → found c.in-Ok.name c.self.inside.slots.items ≡ None
-none_there c =
-    let a = c.self.inside in
-    ap (λ x. found x a.slots.items) c.in-Ok.ensures
-    ∙ none_named a.slots.items a.cells c.args.name.now (ap (λ (s : ObjectState). has_object s Any c.args.name.now) c.self.view_is ∙ c.requires)
-
-pub invariant_of-self : goal.invariant_of-self
-invariant_of-self c =
-    let a = c.self.inside in
-    let n : Named = record { name = c.in-Ok.name; object = c.new-object.result } in
-    elim c.match-put.branch [
-      | in-Ok-put w ↦ kept_put a.slots.items c.put.new.slots.items n w.in-Ok-put.ensures.ok (none_there c) a.cells c.new-object.ensures.empty c.new-object.ensures.start c.self.invariant
-      | in-Err w ↦ subst (λ (ps : Places). IsKept ps a.cells) (sym w.in-Err.ensures.err) c.self.invariant
-    ]
 
 pub returns-clause-gives : goal.returns-clause-gives
 returns-clause-gives c =
-    let a = c.self.inside in
-    let n : Named = record { name = c.in-Ok.name; object = c.new-object.result } in
-    let few : finmap.len c.args.self.now.objects ≢ OBJECT_LIMIT = λ full.
-    c.if-count-eq-OBJECT_LIMIT.false (c.count.ensures
-    ∙ sym (count_is a.slots.items c.as_slice.result.now a.cells c.self.invariant c.as_slice.ensures.value)
-    ∙ ap (λ (s : ObjectState). finmap.len s.objects) c.self.view_is ∙ full) in
-    elim c.match-put.branch [
-      | in-Ok-put w ↦ inr (made_state a.slots.items c.put.new.slots.items a.cells n c.args.name.now c.args.kind c.args.self.now c.match-put.result w.in-Ok-put.ensures.ok (none_there c) c.in-Ok.ensures c.new-object.ensures.kind c.new-object.ensures.empty c.self.view_is few w.result-is)
-      | in-Err w ↦ inl (record { may = refl; answer = w.result-is; state = ap (λ (ps : Places). state_of ps a.cells) w.in-Err.ensures.err ∙ c.self.view_is })
-    ]
+    subst (λ (o : Object). Gives true (comes_in c.args.name.now o c.args.self.now) c.args.self.now c.come_in-2.result c.come_in-2.new.self)
+    (λ i. record { kind = c.new.ensures.kind i; cells = map cell_in (c.new.ensures.empty i); values = c.new.ensures.values i })
+    c.come_in-2.ensures.gives

@@ -13,7 +13,8 @@ use Rattle.object_store.specs.Words.{moving_word}
 use Rattle.object_store.specs.Change.{IsChanged}
 use Rattle.object_store.specs.Kept.{Places, state_of, IsKept, Replaces}
 use Rattle.object_store.proofs.Changes.{kept_changed}
-use Rattle.object_store.proofs.Edited.{moved_to, list_kind, move_given}
+use Rattle.object_store.proofs.Edited.{moved_to, move_given}
+use Rattle.object_store.proofs.ByKind.{list_kind}
 use Rattle.object_store.proofs.Leads.{cell_found, cell_at, led}
 use Rattle.object_store.proofs.objects.Objects.move_to.Goals as goal
 

@@ -29,6 +29,7 @@ number_at_place-requires c =
       record {
         placed = subst (λ (near : Near). IsPlaced near (inner w.object.object)) (sym c.of-near.ensures) (placed_near c.args.what c.in-Some.place.item (inner w.object.object) w.cell w.has);
         distinct = (c.self.invariant.sound c.in-Some.place.slot w.object w.at).distinct;
+        rising = (c.self.invariant.sound c.in-Some.place.slot w.object w.at).rising;
         kind = subst (λ (near : Near). is_of (near_kinds near) (kind_of w.object.object) ≡ true) (sym c.of-near.ensures) (kind_near c.args.what c.in-Some.place.item (kind_of w.object.object) w.kind);
       },
     )

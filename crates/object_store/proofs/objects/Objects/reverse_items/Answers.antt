@@ -15,7 +15,8 @@ use Rattle.object_store.specs.declared.slots.Named.{Named}
 use Rattle.object_store.specs.Slots.{found}
 use Rattle.object_store.specs.Kept.{Places, state_of, IsKept, Replaces}
 use Rattle.object_store.proofs.Changes.{kept_changed}
-use Rattle.object_store.proofs.Edited.{list_kind, turn_row}
+use Rattle.object_store.proofs.Edited.{turn_row}
+use Rattle.object_store.proofs.ByKind.{list_kind}
 use Rattle.object_store.proofs.Leads.{name_found, kind_there, led}
 use Rattle.object_store.proofs.Places.{named_at}
 use Rattle.object_store.proofs.objects.Objects.reverse_items.Goals as goal
