@@ -19,7 +19,7 @@ mod walks;
 
 pub use any_costs::shortest;
 pub use distances::dijkstra;
-pub use refusals::SpRefusal;
+pub use refusals::{SpRefusal, is_within_bound};
 
 #[cfg(test)]
 mod tests;
