@@ -1,5 +1,7 @@
 pub mod Words
 pub mod Refusals
 pub mod Text
+pub mod Verdicts
+pub mod Shortest
 pub mod Outcome
 pub mod Appending

@@ -1,7 +1,7 @@
 -- The words of items, of containers' items, and of what is done.
 use Rattle.std.specs.Prelude.{ℕ, ℤ, List, [], ◌∷◌, ◌++◌, map, slice_index, codes, decimal}
 use Rattle.std.specs.Fmt.{signed_decimal}
-use Rattle.std.specs.List.{flat_map}
+use Rattle.std.specs.List.{flat_map, range_with_len}
 use Rattle.leda_base.specs.declared.ItemName.{ItemName}
 use Rattle.leda_base.specs.declared.ItemName.TheVariants as items
 use Rattle.graph_defs.specs.declared.answer.Reach.{Reach}
@@ -22,9 +22,23 @@ item_word (items.Node number) = numbered (codes "n") number
 item_word (items.Edge number) = numbered (codes "e") number
 item_word (items.Cell number) = numbered (codes "i") number
 
--- the names of items by their places: for each place the number that stands there
+-- the name of the item at a place: the number that stands there
+abbrev pub word_at : List ℕ → List ℕ → ℕ → List ℕ
+word_at letter numbers place = numbered letter (slice_index numbers place)
+
+-- so for each of several places
 abbrev pub words_at : List ℕ → List ℕ → List ℕ → List (List ℕ)
-words_at letter numbers places = map (λ place. numbered letter (slice_index numbers place)) places
+words_at letter numbers places = map (word_at letter numbers) places
+
+-- the name of the item at a place, and its label behind a colon
+abbrev pub labelled_word : List ℕ → List ℕ → List ℕ → ℕ → List ℕ
+labelled_word letter numbers labels place =
+    word_at letter numbers place ++ codes ":" ++ decimal (slice_index labels place)
+
+-- so for the places below n
+abbrev pub labelled_words : List ℕ → List ℕ → List ℕ → ℕ → List (List ℕ)
+labelled_words letter numbers labels n =
+    map (labelled_word letter numbers labels) (range_with_len 0 n)
 
 -- a value behind a colon
 abbrev pub value_text : ℤ → List ℕ

@@ -2,7 +2,7 @@
 ghost use Rattle.std.specs.Prelude.{◌+◌, ◌<◌, ◌≤◌, ◌∷◌, ◌++◌, ◌≡◌, [], length, codes, map, All};
 ghost use Rattle.std.specs.List.{flat_map};
 ghost use Rattle.std.specs.Fmt.{signed_decimal};
-ghost use Rattle.reply_text.specs.Words.{numbered, item_word, words_at, value_text, cell_word, label_word, kind_word as the_kind_word};
+ghost use Rattle.reply_text.specs.Words.{numbered, item_word, words_at, labelled_word, labelled_words, value_text, cell_word, label_word, kind_word as the_kind_word};
 ghost use Rattle.reply_text.specs.Text.{words_text};
 ghost use Rattle.reply_text.specs.Appending.{Appends, TakesRoom, subject_words, IsSubjectShort};
 
@@ -93,10 +93,81 @@ pub(crate) fn append_items_at(
         to.old to.new result }
 {
     for place in places {
-        append(to, b" ")?;
-        append_numbered(to, letter, numbers[*place as usize])?;
+        append_item_at(to, letter, numbers, *place)?;
     }
     Ok(())
+}
+
+/// Appends the name of the item at a place.
+pub(crate) fn append_item_at(
+    to: &mut Vec<u8>,
+    letter: &[u8],
+    numbers: &[u32],
+    place: u32,
+) -> Result<(), AllocError>
+    requires letter { length letter.now ≡ 1 }
+    requires place { place < length numbers.now }
+    ensures { Appends (words_text (words_at letter.now numbers.now (place ∷ [])))
+        to.old to.new result }
+{
+    append(to, b" ")?;
+    append_numbered(to, letter, numbers[place as usize])
+}
+
+/// Appends the name of each item, a letter and its number.
+pub(crate) fn append_names(
+    to: &mut Vec<u8>,
+    letter: &[u8],
+    numbers: &[u32],
+) -> Result<(), AllocError>
+    requires { length letter.now ≡ 1 }
+    ensures { Appends (words_text (map (numbered letter.now) numbers.now)) to.old to.new result }
+{
+    for number in numbers {
+        append(to, b" ")?;
+        append_numbered(to, letter, *number)?;
+    }
+    Ok(())
+}
+
+/// Appends the name of each item, a letter and its number, with the item's label behind it.
+#[tactic(auto, using(crate::proofs::Labels::one_more))]
+pub(crate) fn append_labelled(
+    to: &mut Vec<u8>,
+    letter: &[u8],
+    numbers: &[u32],
+    labels: &[u32],
+) -> Result<(), AllocError>
+    requires letter { length letter.now ≡ 1 }
+    requires labels { length labels.now ≡ length numbers.now }
+    ensures { Appends
+        (words_text (labelled_words letter.now numbers.now labels.now (length numbers.now)))
+        to.old to.new result }
+{
+    for place in 0..numbers.len() {
+        append_labelled_at(to, letter, numbers, labels, place)?;
+    }
+    Ok(())
+}
+
+/// Appends the name of the item at a place, with its label behind it.
+fn append_labelled_at(
+    to: &mut Vec<u8>,
+    letter: &[u8],
+    numbers: &[u32],
+    labels: &[u32],
+    place: usize,
+) -> Result<(), AllocError>
+    requires letter { length letter.now ≡ 1 }
+    requires number { place < length numbers.now }
+    requires label { place < length labels.now }
+    ensures { Appends (words_text (labelled_word letter.now numbers.now labels.now place ∷ []))
+        to.old to.new result }
+{
+    append(to, b" ")?;
+    append_numbered(to, letter, numbers[place])?;
+    append(to, b":")?;
+    append_integer(to, labels[place])
 }
 
 /// Appends each item of a container, with what it holds.

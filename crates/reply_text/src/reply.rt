@@ -1,7 +1,7 @@
 //! What a command is answered with.
 
 use crate::refusal::Refusal;
-use graph_defs::Reach;
+use graph_defs::{MatchAnswer, Reach, SpAnswer, Verdict};
 use leda_base::{ItemName, Row};
 
 /// What a command is answered with.
@@ -55,4 +55,10 @@ pub struct Named {
 #[derive(Drop)]
 pub enum Answer {
     Reach(Reach),
+    /// Shortest paths from one node.
+    Sp(SpAnswer),
+    Matching(MatchAnswer),
+    /// What a checker says of an answer. It names the node or the edge at the verdict's place; for
+    /// an item that is gone, or a node without a value, that one is the only name there is.
+    Verdict(Verdict),
 }

@@ -1,9 +1,15 @@
 //! The text of each reply, as the manual has it.
 ghost use Rattle.reply_text.specs.Refusals.{IsRefusalNamed};
+ghost use Rattle.reply_text.specs.Shortest.{IsSpNamed};
 ghost use Rattle.reply_text.specs.Text.{IsNamed};
+ghost use Rattle.reply_text.specs.Verdicts.{IsVerdictNamed};
+ghost use Rattle.graph_defs.specs.declared.verdict.Verdict.TheVariants.{No};
+ghost use Rattle.std.specs.Prelude.{◌≡◌, [], ◌∷◌};
 
 use crate::{Answer, CellShow, Named, ObjectName, Refusal, Reply, ReplyLine, put_reply};
-use graph_defs::{Kept, Reach, TextKind};
+use graph_defs::{
+    Cond, Finite, Kept, Low, MatchAnswer, Reach, Seed, SpAnswer, TextKind, Verdict, Why,
+};
 use leda_base::{ItemName, NoMemory, Row};
 use std::alloc::Global;
 use std::process::Abort;
@@ -61,6 +67,180 @@ fn each_answer_has_its_lines(rt: HostRuntime) -> Result<(), Fail> {
     assert_eq!(rt;
         text_of(alloc, &Reply::Query(walk))?.as_slice(),
         b"= walk e3 e3\n".as_slice()
+    );
+    Ok(())
+}
+
+#[test]
+fn a_matching_has_its_size_its_edges_and_its_labels(rt: HostRuntime) -> Result<(), Fail> {
+    let alloc = rt.alloc();
+    let matching = Named {
+        nodes: Row::from_vec([4, 9].to_vec(alloc)?),
+        edges: Row::from_vec([3, 8].to_vec(alloc)?),
+        answer: Answer::Matching(MatchAnswer {
+            edges: Row::from_vec([1].to_vec(alloc)?),
+            cover: Row::from_vec([1, 0].to_vec(alloc)?),
+        }),
+    };
+    assert_eq!(rt;
+        text_of(alloc, &Reply::Query(matching))?.as_slice(),
+        b"= matching 1\n+ match e8\n+ cover n4:1 n9:0\n".as_slice()
+    );
+    Ok(())
+}
+
+/// Fails where the answer on a net of the nodes n1 to n6 and the edges e1 to e5 isn't written as
+/// this text.
+fn tells(rt: &impl Abort, alloc: Global, answer: SpAnswer, text: &str) -> Result<(), Fail>
+    requires { IsSpNamed (1 ∷ 2 ∷ 3 ∷ 4 ∷ 5 ∷ 6 ∷ []) (1 ∷ 2 ∷ 3 ∷ 4 ∷ 5 ∷ []) answer }
+{
+    let named = Named {
+        nodes: Row::from_slice(alloc, &[1, 2, 3, 4, 5, 6])?,
+        edges: Row::from_slice(alloc, &[1, 2, 3, 4, 5])?,
+        answer: Answer::Sp(answer),
+    };
+    let written = text_of(alloc, &Reply::Query(named))?;
+    assert_eq!(rt; written.as_slice(), text.as_bytes());
+    Ok(())
+}
+
+fn at(node: u32, dist: i64, pred: Option<u32>) -> Finite
+    ensures { result ≡ (record { node = node; dist = dist; pred = pred }) }
+{
+    Finite { node, dist, pred }
+}
+
+#[test]
+fn shortest_paths_have_a_line_for_each_node_and_each_seed(rt: HostRuntime) -> Result<(), Fail> {
+    let alloc = rt.alloc();
+    let mut seeds = Row::new(alloc);
+    seeds.push(Seed {
+        start: 0,
+        walk: Row::from_slice(alloc, &[0])?,
+        cycle: Row::from_slice(alloc, &[1, 2])?,
+    })?;
+    let low = [
+        Low {
+            node: 1,
+            why: Why::Seed(0),
+        },
+        Low {
+            node: 2,
+            why: Why::Seed(0),
+        },
+        Low {
+            node: 3,
+            why: Why::Arc(3),
+        },
+    ];
+    let answer = SpAnswer {
+        finite: Row::from_slice(alloc, &[at(0, 0, None), at(4, 5, Some(4))])?,
+        seeds,
+        low: Row::from_slice(alloc, &low)?,
+        unreached: Row::from_slice(alloc, &[5])?,
+    };
+    let text = "= sp 2 3 1\n+ finite n1 0 -\n+ finite n5 5 e5\n+ seed n1 : e1 : e2 e3\n\
+        + -inf n2 seed 1\n+ -inf n3 seed 1\n+ -inf n4 e4\n+ inf n6\n";
+    tells(&rt, alloc, answer, text)
+}
+
+#[test]
+fn unreached_nodes_come_last(rt: HostRuntime) -> Result<(), Fail> {
+    let alloc = rt.alloc();
+    let finite = [at(0, 0, None), at(1, 0, Some(0)), at(2, 0, Some(1))];
+    let answer = SpAnswer {
+        finite: Row::from_slice(alloc, &finite)?,
+        seeds: Row::new(alloc),
+        low: Row::new(alloc),
+        unreached: Row::from_slice(alloc, &[3, 4])?,
+    };
+    let text = "= sp 3 0 2\n+ finite n1 0 -\n+ finite n2 0 e1\n+ finite n3 0 e2\n\
+        + inf n4\n+ inf n5\n";
+    tells(&rt, alloc, answer, text)
+}
+
+#[test]
+fn distances_are_signed(rt: HostRuntime) -> Result<(), Fail> {
+    let alloc = rt.alloc();
+    let finite = [
+        at(0, 0, None),
+        at(1, -1, Some(0)),
+        at(2, i64::MIN, Some(1)),
+        at(3, 4_611_686_018_427_387_903, Some(2)),
+    ];
+    let answer = SpAnswer {
+        finite: Row::from_slice(alloc, &finite)?,
+        seeds: Row::new(alloc),
+        low: Row::new(alloc),
+        unreached: Row::new(alloc),
+    };
+    let text = "= sp 4 0 0\n+ finite n1 0 -\n+ finite n2 -1 e1\n\
+        + finite n3 -9223372036854775808 e2\n+ finite n4 4611686018427387903 e3\n";
+    tells(&rt, alloc, answer, text)
+}
+
+#[test]
+fn a_source_on_a_negative_cycle_has_an_empty_walk(rt: HostRuntime) -> Result<(), Fail> {
+    let alloc = rt.alloc();
+    let mut seeds = Row::new(alloc);
+    seeds.push(Seed {
+        start: 0,
+        walk: Row::new(alloc),
+        cycle: Row::from_slice(alloc, &[2, 3])?,
+    })?;
+    let answer = SpAnswer {
+        finite: Row::new(alloc),
+        seeds,
+        low: Row::from_slice(
+            alloc,
+            &[Low {
+                node: 0,
+                why: Why::Seed(0),
+            }],
+        )?,
+        unreached: Row::new(alloc),
+    };
+    let text = "= sp 0 1 0\n+ seed n1 : : e3 e4\n+ -inf n1 seed 1\n";
+    tells(&rt, alloc, answer, text)
+}
+
+/// Fails where the verdict on a net of the nodes n4 and n9 and the edges e3 and e8 isn't written as
+/// this text.
+fn says(rt: &impl Abort, alloc: Global, verdict: Verdict, text: &str) -> Result<(), Fail>
+    requires { IsVerdictNamed (4 ∷ 9 ∷ []) (3 ∷ 8 ∷ []) verdict }
+{
+    let named = Named {
+        nodes: Row::from_vec([4, 9].to_vec(alloc)?),
+        edges: Row::from_vec([3, 8].to_vec(alloc)?),
+        answer: Answer::Verdict(verdict),
+    };
+    let written = text_of(alloc, &Reply::Query(named))?;
+    assert_eq!(rt; written.as_slice(), text.as_bytes());
+    Ok(())
+}
+
+fn no(cond: Cond, place: u32) -> Verdict
+    ensures { result ≡ No cond place }
+{
+    Verdict::No { cond, place }
+}
+
+#[test]
+fn a_verdict_names_what_is_broken_and_where(rt: HostRuntime) -> Result<(), Fail> {
+    let alloc = rt.alloc();
+    says(&rt, alloc, Verdict::Yes, "= yes\n")?;
+    says(&rt, alloc, no(Cond::SelfLoop, 1), "= no loop e8\n")?;
+    says(&rt, alloc, no(Cond::Shared, 0), "= no shared n4\n")?;
+    says(&rt, alloc, no(Cond::Size, 0), "= no size\n")?;
+    says(&rt, alloc, no(Cond::Seed, 0), "= no seed 1\n")?;
+    let gone = Named {
+        nodes: Row::new(alloc),
+        edges: Row::from_vec([8].to_vec(alloc)?),
+        answer: Answer::Verdict(no(Cond::Gone, 0)),
+    };
+    assert_eq!(rt;
+        text_of(alloc, &Reply::Query(gone))?.as_slice(),
+        b"= no gone e8\n".as_slice()
     );
     Ok(())
 }

@@ -1,19 +1,21 @@
 //! Replies as bytes.
-ghost use Rattle.std.specs.Prelude.{◌≡◌, ◌+◌, ◌≤◌, ◌∷◌, [], ◌++◌, vec_len, vec_capacity, IsOk, OnOk, OnErr};
+ghost use Rattle.std.specs.Prelude.{◌≡◌, ◌+◌, ◌≤◌, ◌++◌, vec_len, vec_capacity, IsOk, OnOk, OnErr};
 ghost use Rattle.std.specs.List.{flat_map};
-ghost use Rattle.reply_text.specs.Words.{line_words};
+ghost use Rattle.reply_text.specs.Words.{line_words, reach_words};
 ghost use Rattle.reply_text.specs.Refusals.{refusal_words, IsRefusalNamed};
-ghost use Rattle.reply_text.specs.Text.{success, refusal_line, answer_lines, words_text, line_text, reply_text, IsReachNamed, IsAnswerNamed, IsNamed, IsShortLine, IsShort};
-ghost use Rattle.reply_text.specs.Words.{reach_words};
+ghost use Rattle.reply_text.specs.Text.{success, refusal_line, answer_lines, match_lines, words_text, line_text, reply_text, IsReachNamed, IsMatchNamed, IsAnswerNamed, IsNamed, IsShortLine, IsShort};
 ghost use Rattle.reply_text.specs.Appending.{Appends, TakesRoom};
 
 use crate::appending::{
-    append, append_cells, append_item, append_items, append_items_at, append_label, append_number,
-    append_subject, append_word,
+    append, append_cells, append_item, append_items, append_label, append_number, append_subject,
+    append_word,
 };
+use crate::line::{append_counts, append_line_at, append_line_labelled};
 use crate::refusal::Refusal;
 use crate::reply::{Answer, Reply, ReplyLine};
-use graph_defs::Reach;
+use crate::shortest::append_sp;
+use crate::verdict::append_verdict;
+use graph_defs::{MatchAnswer, Reach};
 use leda_base::NoMemory;
 use std::alloc::AllocError;
 
@@ -117,7 +119,26 @@ fn append_answer(
 {
     match answer {
         Answer::Reach(reach) => append_reach(to, nodes, edges, reach),
+        Answer::Sp(shortest) => append_sp(to, nodes, edges, shortest),
+        Answer::Matching(matching) => append_matching(to, nodes, edges, matching),
+        Answer::Verdict(verdict) => append_verdict(to, nodes, edges, *verdict),
     }
+}
+
+fn append_matching(
+    to: &mut Vec<u8>,
+    nodes: &[u32],
+    edges: &[u32],
+    matching: &MatchAnswer,
+) -> Result<(), AllocError>
+    requires { IsMatchNamed nodes.now edges.now matching.now }
+    ensures { Appends (flat_map line_text (match_lines nodes.now edges.now matching.now))
+        to.old to.new result }
+{
+    let chosen = matching.edges.as_slice();
+    append_counts(to, b"matching", &[chosen.len()])?;
+    append_line_at(to, b"+", b"match", b"e", edges, chosen)?;
+    append_line_labelled(to, b"+", b"cover", b"n", nodes, matching.cover.as_slice())
 }
 
 fn append_reach(
@@ -131,14 +152,7 @@ fn append_reach(
         to.old to.new result }
 {
     match reach {
-        Reach::Walk(arcs) => {
-            append(to, b"= walk")?;
-            append_items_at(to, b"e", edges, arcs.as_slice())?;
-        }
-        Reach::Closed(set) => {
-            append(to, b"= closed")?;
-            append_items_at(to, b"n", nodes, set.as_slice())?;
-        }
+        Reach::Walk(arcs) => append_line_at(to, b"=", b"walk", b"e", edges, arcs.as_slice()),
+        Reach::Closed(set) => append_line_at(to, b"=", b"closed", b"n", nodes, set.as_slice()),
     }
-    append(to, b"\n")
 }

@@ -1,0 +1,3 @@
+mod Labels
+mod Lines
+pub mod SpNames

@@ -1,0 +1,11 @@
+use Rattle.std.proofs.Common.{◌≡◌, ◌≤◌, ◌++◌, map, take, vec_capacity}
+use Rattle.std.specs.Prelude.{decimal}
+use Rattle.reply_text.specs.Text.{words_text}
+use Rattle.reply_text.proofs.line.append_numbers.Given as goal
+
+abbrev pub invariant-loop-number : goal.invariant-loop-number
+invariant-loop-number l = record {
+  text : l.to.items
+      ≡ l.initial.to.items ++ words_text (map decimal (take l.number-index l.numbers));
+  capacity : vec_capacity l.initial.to ≤ vec_capacity l.to;
+}
