@@ -12,4 +12,6 @@ mod file_tests;
 #[cfg(test)]
 mod object_tests;
 #[cfg(test)]
+mod query_tests;
+#[cfg(test)]
 mod tests;

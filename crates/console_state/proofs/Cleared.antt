@@ -266,7 +266,7 @@ all-clear s rule [] [] clear = refl
 all-clear s rule [] (arg ∷ later) clear = refl
 all-clear s rule (form ∷ forms) [] clear = refl
 all-clear s rule (form ∷ forms) (arg ∷ later) clear =
-    ap (λ one. option_or one (leftmost s rule forms later)) (clear.0 rule later)
+    ap (λ one. option_or one (leftmost s rule forms later)) (clear.0 rule)
     ∙ all-clear s rule forms later clear.1
 
 -- none of six
@@ -284,22 +284,10 @@ free s word forms args kind clear =
     (all-clear s rules.Stray forms args clear) (all-clear s rules.Hidden forms args clear) kind
     (all-clear s rules.Taken forms args clear)
 
--- an item that stands as is asked
-not-gone : (test : Bool) (at : Standing) (x : ItemName) → MatchBool test (at ≡ Visible) (IsLive at)
-    → (gone at x ≡ None) × (cond test (hidden at x) None ≡ None)
-not-gone true Unknown x h = cc
-not-gone true Dead x h = cc
-not-gone true Hidden x h = cc
-not-gone true Visible x h = (refl, refl)
-not-gone false Unknown x h = absurd h
-not-gone false Dead x h = absurd h
-not-gone false Hidden x h = (refl, refl)
-not-gone false Visible x h = (refl, refl)
-
 -- one argument more, in front of the others
 pub clear-more : (s : State) (forms : List Form) (args : List Arg) (form : Form) (arg : Arg)
     → 1 ≤ length forms → 1 ≤ length args → arg ≡ get_or args 0 arg
-    → IsClear s (get_or forms 0 form) arg
+    → IsClear s (get_or forms 0 form) arg (take (length args - 1) (drop 1 args))
     → AreClear s (take (length forms - 1) (drop 1 forms)) (take (length args - 1) (drop 1 args))
     → AreClear s forms args
 clear-more s [] args form arg f a is one others = absurd (omega (arith, f))
@@ -307,7 +295,8 @@ clear-more s (x ∷ xs) [] form arg f a is one others = absurd (omega (arith, a)
 clear-more s (x ∷ xs) (y ∷ ys) form arg f a is one others =
     let fs : take (length (x ∷ xs) - 1) xs ≡ xs = take_all (length (x ∷ xs) - 1) xs (omega arith) in
     let same : take (length (y ∷ ys) - 1) ys ≡ ys = take_all (length (y ∷ ys) - 1) ys (omega arith) in (
-      subst (IsClear s x) is one,
+      subst (IsClear s x y) same
+          (subst (λ y. IsClear s x y (take (length (y ∷ ys) - 1) ys)) is one),
       subst (λ ys. AreClear s xs ys) same
           (subst (λ xs. AreClear s xs (take (length (y ∷ ys) - 1) ys)) fs others),
     )

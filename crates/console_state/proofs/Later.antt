@@ -1,6 +1,6 @@
 -- A graph goes on: what is live after a change was live before it, or has a number that had been
 -- given to nothing.
-use Rattle.std.proofs.Common.{◌≡◌, ℕ, ◌+◌, ◌<◌, ◌≤◌, Bool, true, false, cond, List, [], ◌∷◌, ◌++◌, filter, Option, Some, None, ◌⊎◌, inl, inr, arith}
+use Rattle.std.proofs.Common.{ℕ, ◌+◌, ◌<◌, ◌≤◌, Bool, true, false, cond, List, [], ◌∷◌, ◌++◌, filter, Option, Some, None, ◌⊎◌, inl, inr, arith}
 use Rattle.std.specs.Prelude.{nat_lt, not, ◌==◌}
 use Rattle.graph_defs.specs.declared.plain.PlainEdge.{PlainEdge}
 use Rattle.graph_defs.specs.declared.plain.PlainGraph.{PlainGraph}
@@ -10,7 +10,7 @@ use Rattle.graph_state.specs.State.{GraphState, new_graph, visible_edges}
 use Rattle.graph_state.specs.Names.{Has, first_of}
 use Rattle.graph_state.specs.Beside.{with_edge_beside}
 use Rattle.graph_state.specs.Built.{bare, with_nodes, paired_back, with_plain_edge, with_plain_edges, built}
-use Rattle.graph_state.specs.Edits.{with_node, with_edge, with_edge_before, with_edge_behind, without_edge, without_edges, without_node, edges_without, has_end, paired, moved, reversed, all_reversed, made_undirected, made_directed, cleared, with_node_label, with_edge_label, edge_hidden, edge_restored, node_hidden, node_restored, all_restored}
+use Rattle.graph_state.specs.Edits.{with_node, with_edge, with_edge_before, with_edge_behind, without_edge, without_edges, without_node, has_end, paired, moved, reversed, all_reversed, made_undirected, made_directed, cleared, with_node_label, with_edge_label, edge_hidden, edge_restored, node_hidden, node_restored, all_restored}
 use Rattle.graph_state.proofs.Has.{has_last, has_filter}
 use Rattle.graph_core.specs.Opposite.{can_pair}
 use Rattle.graph_rev.specs.Pairing.{lacks_reversal, pair_if, pair_first, pair_each, map_made}

@@ -2,8 +2,13 @@ pub mod Visible
 pub mod Cleared
 pub mod Reaches
 pub mod Named
+pub mod Matchings
 pub mod Looks
 pub mod FileNames
 pub mod Later
 pub mod Serving
 pub mod Edited
+pub mod Priced
+pub mod PathAnswers
+pub mod Telling
+pub mod Verdicts

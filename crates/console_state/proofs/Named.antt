@@ -9,11 +9,16 @@ use Rattle.graph_defs.specs.Walk.{IsWalk, IsReach}
 use Rattle.reply_text.specs.declared.reply.Answer.TheVariants as answers
 use Rattle.reply_text.specs.declared.reply.Named.{Named}
 use Rattle.reply_text.specs.Text.{IsReachNamed, IsAnswerNamed}
-use Rattle.graph_state.specs.State.{GraphState}
+use Rattle.graph_state.specs.Names.{Has}
+use Rattle.graph_state.specs.State.{shows_edge}
+use Rattle.graph_state.proofs.Has.{has_filter}
 use Rattle.hide_restore.specs.declared.shown.Shown.{Shown}
-use Rattle.hide_restore.specs.Net.{numbers_of_nodes, numbers_of_edges}
+use Rattle.hide_restore.specs.Net.{numbers_of_edges}
+use Rattle.console_state.specs.State.{State}
+use Rattle.console_state.specs.Told.{IsNamedSo}
+use Rattle.console_state.specs.Views.{node_names, edge_names}
 use Rattle.console_state.proofs.Reaches.{net_nodes, net_arcs}
-use Rattle.console_state.specs.Shown.{IsShown}
+use Rattle.kept_answers.specs.Shown.{IsShown}
 
 -- what holds of the first and of all others
 cons_all : (limit arc : ℕ) (arcs : List ℕ) → arc < limit → All (λ a. a < limit) arcs
@@ -37,17 +42,18 @@ reach-named net nodes edges v w (Walk arcs) n m walk = let P : ℕ → Type 0 = 
 reach-named net nodes edges v w (Closed set) n m closed = let P : ℕ → Type 0 = λ n. All (λ node. node < n) set in
     subst P (sym n) closed.cut.nodes.among
 
-module _ (g : GraphState) (shown : Shown) (is : IsShown g shown) where
-  nodes_named : length (numbers_of_nodes shown.nodes) ≡ shown.net.n
-  nodes_named = ap length is.nodes ∙ sym (ap (λ (net : Net). net.n) is.net ∙ net_nodes g)
+module _ (s : State) (shown : Shown) (is : IsShown s.graph shown) where
+  pub nodes_named : length (node_names s) ≡ shown.net.n
+  nodes_named = sym (ap (λ (net : Net). net.n) is.net ∙ net_nodes s.graph)
 
-  edges_named : length (numbers_of_edges shown.edges) ≡ length shown.net.arcs
-  edges_named = ap length is.edges ∙ sym (ap (λ (net : Net). length net.arcs) is.net ∙ net_arcs g)
+  pub edges_named : length (edge_names s) ≡ length shown.net.arcs
+  edges_named = sym (ap (λ (net : Net). length net.arcs) is.net ∙ net_arcs s.graph)
 
-  pub answer-named : (v w : ℕ) (answer : Reach) (named : Named)
-      → named.nodes ≡ numbers_of_nodes shown.nodes
-      → named.edges ≡ numbers_of_edges shown.edges → named.answer ≡ answers.Reach answer
-      → IsReach shown.net v w answer
-      → IsAnswerNamed named.nodes named.edges named.answer
-  answer-named v w answer named nodes edges same right =
-      rw (nodes, edges, same) (reach-named shown.net (numbers_of_nodes shown.nodes) (numbers_of_edges shown.edges) v w answer nodes_named edges_named right)
+  -- the visible edges are edges of the graph
+  pub shown-live : (n : ℕ) → Has n (numbers_of_edges shown.edges) → Has n s.graph.edges
+  shown-live n i = (has_filter (shows_edge s.graph) n s.graph.edges (subst (Has n) is.edges i)).0
+
+  pub reach-told : (v w : ℕ) (answer : Reach) (named : Named) → IsNamedSo s (answers.Reach answer) named
+      → IsReach shown.net v w answer → IsAnswerNamed named.nodes named.edges named.answer
+  reach-told v w answer named so right =
+      rw (so.nodes, so.edges, so.answer) (reach-named shown.net (node_names s) (edge_names s) v w answer nodes_named edges_named right)

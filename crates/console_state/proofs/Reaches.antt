@@ -21,7 +21,7 @@ use Rattle.reply_text.specs.declared.reply.Named.{Named}
 use Rattle.console_state.specs.State.{State}
 use Rattle.console_state.specs.Views.{node_names, edge_names}
 use Rattle.console_state.specs.Query.{IsAnswer}
-use Rattle.console_state.specs.Shown.{IsShown}
+use Rattle.kept_answers.specs.Shown.{IsShown}
 
 -- a name's place among names
 abbrev pub IsPlaceOf : List ℕ → ℕ → ℕ → Type 0
@@ -46,7 +46,7 @@ unfolding shown_net
 net_arcs g = length-map (edge_numbers g) (arc_of g)
 
 module _ (s : State) (shown : Shown) (is : IsShown s.graph shown) where
-  named_place : (v place : ℕ) → IsPlaceOf shown.places v place → slice_get (node_names s) place ≡ Some v
+  pub named_place : (v place : ℕ) → IsPlaceOf shown.places v place → slice_get (node_names s) place ≡ Some v
   named_place v place at = at_place (node_names s) v place (subst (λ names. IsPlaceOf names v place) is.places at)
 
   -- a visible node has a place

@@ -45,11 +45,11 @@ IsLive Visible = ⊤
 abbrev pub StandsFor : Form → Standing → Type 0
 StandsFor form standing = MatchBool (asks_visible form) (standing ≡ Visible) (IsLive standing)
 
--- no rule refuses anything of the argument, whatever comes behind it
-abbrev pub IsClear : State → Form → Arg → Type 0
-IsClear s form arg = (rule : Rule) (later : List Arg) → refusal_by s rule form arg later ≡ None
+-- no rule refuses anything of the argument, which comes before others
+abbrev pub IsClear : State → Form → Arg → List Arg → Type 0
+IsClear s form arg later = (rule : Rule) → refusal_by s rule form arg later ≡ None
 
 -- no rule refuses anything of any argument
 abbrev pub AreClear : State → List Form → List Arg → Type 0
-AreClear s (form ∷ forms) (arg ∷ later) = IsClear s form arg × AreClear s forms later
+AreClear s (form ∷ forms) (arg ∷ later) = IsClear s form arg later × AreClear s forms later
 AreClear s forms args = ⊤

@@ -3,9 +3,13 @@ pub mod Graph
 pub mod Look
 pub mod Views
 pub mod Order
+pub mod Costs
+pub mod Paths
+pub mod Told
 pub mod Query
 pub mod Files
 pub mod Step
+pub mod Keeping
 pub mod Obstacles
 pub mod Clear
 pub mod Shown

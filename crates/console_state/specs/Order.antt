@@ -102,6 +102,10 @@ asks_directed (File word) = false
 asks_directed (Object word) = false
 asks_directed (Value word) = false
 asks_directed (Query queries.Reach) = true
+asks_directed (Query queries.Sp) = true
+asks_directed (Query queries.Dijkstra) = true
+asks_directed (Query queries.Matching) = false
+asks_directed (Query queries.Check) = false
 
 -- the graph is of the wrong kind
 abbrev pub wrong_kind : State → Word → Option Refusal

@@ -1,21 +1,31 @@
 -- What a command does.
-use Rattle.std.specs.Prelude.{◌≡◌, ◌⊎◌, List, Option, Some, None, Ok, Err, option_map}
+use Rattle.std.specs.Prelude.{◌≡◌, ◌⊎◌, List, [], ◌∷◌, Option, Some, None, Ok, Err, option_map}
+use Rattle.graph_defs.specs.declared.matching.MatchAnswer.{MatchAnswer}
+use Rattle.graph_defs.specs.declared.shortest.SpAnswer.{SpAnswer}
 use Rattle.leda_edge.specs.Stored.{Stored}
 use Rattle.script_text.specs.declared.argument.Arg.{Arg}
+use Rattle.script_text.specs.declared.argument.Arg.TheVariants as args
 use Rattle.script_text.specs.declared.word.EditWord.{EditWord}
 use Rattle.script_text.specs.declared.word.LookWord.{LookWord}
 use Rattle.script_text.specs.declared.word.ObjectWord.{ObjectWord}
 use Rattle.script_text.specs.declared.word.QueryWord.{QueryWord}
+use Rattle.script_text.specs.declared.word.QueryWord.TheVariants as queries
 use Rattle.script_text.specs.declared.word.ValueWord.{ValueWord}
 use Rattle.script_text.specs.declared.word.Word.{Word}
 use Rattle.script_text.specs.declared.word.Word.TheVariants.{Edit, Look, File, Object, Value, Query}
 use Rattle.script_text.specs.Said.{Said}
 use Rattle.script_text.specs.Table.{may_lack_memory}
 use Rattle.reply_text.specs.declared.refusal.Refusal.{Refusal}
+use Rattle.reply_text.specs.declared.reply.Answer.{Answer}
+use Rattle.reply_text.specs.declared.reply.Answer.TheVariants as answers
+use Rattle.reply_text.specs.declared.reply.Named.{Named}
 use Rattle.reply_text.specs.declared.reply.Reply.{Reply}
+use Rattle.reply_text.specs.declared.reply.Reply.TheVariants as replies
 use Rattle.reply_text.specs.Outcome.{Outcome, done, refused, LacksMemory, IsQuiet}
 use Rattle.object_store.specs.Commands.{objects_done}
 use Rattle.object_store.specs.Values.{ValuesDone}
+use Rattle.kept_answers.specs.Kept.{matched}
+use Rattle.kept_answers.specs.Told.{told as told_by}
 use Rattle.console_state.specs.State.{State, on_graph, on_objects}
 use Rattle.console_state.specs.Graph.{graph_edited}
 use Rattle.console_state.specs.Look.{Told, graph_looked}
@@ -40,8 +50,30 @@ looked word args s = option_map (told s) (graph_looked word args s.graph)
 abbrev pub objects_changed : ObjectWord → List Arg → State → Option (Outcome State)
 objects_changed word args s = option_map (on_objects s) (objects_done word args s.objects)
 
--- the session with the answer to a query kept for a later check; that to `reach` isn't kept
+-- the session with an answer to `sp` or `dijkstra` of these arguments kept
+abbrev pub with_paths : List Arg → Named → SpAnswer → State → State
+with_paths (args.Node v ∷ args.Name c ∷ []) named answer s = record s {
+  kept = record s.kept { sp = Some (told_by v c named.nodes named.edges answer) };
+}
+with_paths args named answer s = s
+
+-- the session with an answer to `matching` kept
+abbrev pub with_matching : Named → MatchAnswer → State → State
+with_matching named answer s =
+    record s { kept = record s.kept { matching = Some (matched named.nodes named.edges answer) } }
+
+-- the session with the answer to a query kept for a later check, by its sort; that to `reach` isn't
+-- kept, nor is a verdict
+abbrev pub with_answer : Answer → Word → List Arg → Named → State → State
+with_answer (answers.Sp answer) (Query queries.Sp) args named s = with_paths args named answer s
+with_answer (answers.Sp answer) (Query queries.Dijkstra) args named s =
+    with_paths args named answer s
+with_answer (answers.Matching answer) (Query queries.Matching) args named s =
+    with_matching named answer s
+with_answer answer word args named s = s
+
 abbrev pub with_kept : Said → Reply → State → State
+with_kept said (replies.Query named) s = with_answer named.answer said.word said.args named s
 with_kept said reply s = s
 
 -- the command leads to the outcome that its word says; no file changes
@@ -56,6 +88,7 @@ pub record Values (word : ValueWord) (args : List Arg) (s : State) (f : Stored)
     (reply : Reply) (s' : State) (f' : Stored) : Type 0 where
   pub objects : ValuesDone word args s.graph s.objects reply s'.objects
   pub graph : s'.graph ≡ s.graph
+  pub kept : s'.kept ≡ s.kept
   pub files : f' ≡ f
 
 -- the query is answered, and its answer is kept; nothing else changes

@@ -10,9 +10,12 @@
 
 mod files;
 mod graph;
+mod keeping;
 mod look;
 mod names;
 mod order;
+mod paths;
+mod queries;
 mod session;
 
 pub use session::Session;

@@ -1,7 +1,9 @@
 //! What stands in the way of a command, by the forms of its arguments, in one order for all.
-ghost use Rattle.std.specs.Prelude.{◌≡◌, None, option_map, IfSome};
+ghost use Rattle.std.specs.Prelude.{◌≡◌, List, None, option_map, IfSome};
 ghost use Rattle.std.specs.Bool.{OnTrue};
 ghost use Rattle.std.specs.List.{AllZip};
+ghost use Rattle.script_text.specs.declared.argument.Arg.{Arg as TheArg};
+ghost use Rattle.script_text.specs.declared.argument.Arg.TheVariants as args;
 ghost use Rattle.script_text.specs.Form.{keeps_bytes, IsOfForm};
 ghost use Rattle.script_text.specs.Table.{keeps_any};
 ghost use Rattle.object_store.specs.Met.{asked};
@@ -72,8 +74,7 @@ impl Session {
         }
     }
 
-    /// Whether one look at each argument shows that nothing is in the way of the command, as it
-    /// does for most commands. It doesn't look at names of objects and at items of containers.
+    /// Whether one look at each argument shows that nothing is in the way of the command.
     fn is_free(&self, word: Word, forms: &[Form], args: &[Arg]) -> bool
         ensures { OnTrue result (refusal_among self.now word forms.now args.now ≡ None) }
     {
@@ -86,26 +87,51 @@ impl Session {
     {
         match (forms, args) {
             ([form, forms @ ..], [arg, later @ ..]) => {
-                self.is_clear(*form, arg) && self.are_clear(forms, later)
+                self.is_clear(*form, arg, later) && self.are_clear(forms, later)
             }
             _ => true,
         }
     }
 
-    /// Whether no rule refuses anything of the argument, where one look at it shows that.
-    fn is_clear(&self, form: Form, arg: &Arg) -> bool
-        ensures { OnTrue result (IsClear self.now form arg.now) }
+    /// Whether one look at the argument, which comes before others, shows that no rule refuses
+    /// anything of it.
+    fn is_clear(&self, form: Form, arg: &Arg, later: &[Arg]) -> bool
+        ensures { OnTrue result (IsClear self.now form arg.now later.now) }
     {
         match arg {
             Arg::Node(number) => self.stands_so(form, ItemName::Node(*number)),
             Arg::Edge(number) => self.stands_so(form, ItemName::Edge(*number)),
-            Arg::Cell(_) | Arg::Name(_) => false,
+            Arg::Cell(number) => self.is_held(form, *number),
+            Arg::Name(name) => self.is_named_so(form, name.as_slice(), later),
             Arg::Num(_)
             | Arg::Label(_)
             | Arg::Labels
             | Arg::File(_)
             | Arg::Mode(_)
             | Arg::Kept(_) => true,
+        }
+    }
+
+    /// Whether the item is one of a container as the form asks. It is then there, and visible.
+    fn is_held(&self, form: Form, number: u32) -> bool
+        ensures { (later : List TheArg)
+            → OnTrue result (IsClear self.now form (args.Cell number) later) }
+    {
+        match form {
+            Form::Cell(kinds) => self.holds_cell(kinds, number),
+            _ => false,
+        }
+    }
+
+    /// Whether an object of the kinds that are asked for has the name, or none has it where it is
+    /// to be new.
+    fn is_named_so(&self, form: Form, name: &[u8], later: &[Arg]) -> bool
+        ensures { OnTrue result (IsClear self.now form (args.Name name.now) later.now) }
+    {
+        match form {
+            Form::Object(kinds) => self.has_object(asked(kinds, later), name),
+            Form::NewName => !self.has_object(Kinds::Any, name),
+            _ => true,
         }
     }
 
@@ -286,7 +312,13 @@ fn asks_directed(word: Word) -> bool
     ensures { result ≡ asks_directed word }
 {
     match word {
-        Word::Look(LookWord::InEdges | LookWord::FaceSucc) | Word::Query(QueryWord::Reach) => true,
-        Word::Edit(_) | Word::Look(_) | Word::File(_) | Word::Object(_) | Word::Value(_) => false,
+        Word::Look(LookWord::InEdges | LookWord::FaceSucc)
+        | Word::Query(QueryWord::Reach | QueryWord::Sp | QueryWord::Dijkstra) => true,
+        Word::Edit(_)
+        | Word::Look(_)
+        | Word::File(_)
+        | Word::Object(_)
+        | Word::Value(_)
+        | Word::Query(QueryWord::Matching | QueryWord::Check) => false,
     }
 }

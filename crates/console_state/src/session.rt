@@ -1,10 +1,6 @@
 //! A session: its state, and the commands on it.
 ghost use Rattle.std.specs.Prelude.{◌≡◌, ◌⊎◌, Some, None, true, [], ◌∷◌, IfOk, OnErr};
 ghost use Rattle.leda_edge.specs.Stored.{stored, StaysStored};
-ghost use Rattle.leda_base.specs.declared.ItemName.TheVariants as items;
-ghost use Rattle.graph_state.specs.Refusals.{AreVisible};
-ghost use Rattle.script_text.specs.declared.argument.Arg.TheVariants as args;
-ghost use Rattle.script_text.specs.declared.word.QueryWord.TheVariants as queries;
 ghost use Rattle.script_text.specs.declared.word.Word.TheVariants as words;
 ghost use Rattle.script_text.specs.Table.{forms_of, may_lack_memory, IsWhole};
 ghost use Rattle.object_store.specs.Met.{AreMet as ObjectsAreMet};
@@ -16,25 +12,21 @@ ghost use Rattle.console_state.specs.State.{empty};
 ghost use Rattle.console_state.specs.Views.{standing, stands, has_object, holds_cell, is_directed};
 ghost use Rattle.console_state.specs.Clear.{AreMet, IsOfKind};
 ghost use Rattle.console_state.specs.Obstacles.{refusal_of, HasName};
-ghost use Rattle.console_state.specs.Query.{Answers};
+ghost use Rattle.console_state.specs.Keeping.{IsToKeep};
 ghost use Rattle.console_state.specs.Refused.{standing_of};
-ghost use Rattle.console_state.specs.Shown.{IsShown};
 ghost use Rattle.console_state.specs.Step.{edited, looked, objects_changed, with_kept, Step, IsQuietStep};
 
 use crate::graph::edit;
 use crate::look::look;
-use crate::names::named;
 use crate::order::{Obstacle, Standing};
 use graph_core::{Gone, Graph, Kind};
-use graph_search::reach;
-use hide_restore::{Shown, net};
+use hide_restore::Shown;
+use kept_answers::KeptAnswers;
 use leda_base::{ItemName, NoMemory, Row};
 use leda_edge::Store;
 use object_store::Objects;
-use reply_text::{Answer, ObjectName, Refusal, Reply};
-use script_text::{
-    Arg, Command, EditWord, Kinds, LookWord, ObjectWord, QueryWord, ValueWord, Word,
-};
+use reply_text::{ObjectName, Refusal, Reply};
+use script_text::{Arg, Command, EditWord, Kinds, LookWord, ObjectWord, ValueWord, Word};
 use std::alloc::Global;
 use std::marker::Model;
 
@@ -43,7 +35,8 @@ use std::marker::Model;
 pub struct Session {
     pub(crate) alloc: Global,
     pub(crate) graph: Graph,
-    objects: Objects,
+    pub(crate) objects: Objects,
+    pub(crate) kept: KeptAnswers,
     /// The net of the visible graph, from a query to the next edit.
     pub(crate) shown: Option<Shown>,
 }
@@ -56,13 +49,13 @@ impl Model for Session {
 
     ghost coded = { session_code };
 
-    ghost view = { λ a. record { graph = a.graph; objects = a.objects } };
+    ghost view = { λ a. record { graph = a.graph; objects = a.objects; kept = a.kept } };
 
     ghost invariant = { λ a. IsSound a.graph a.objects a.shown };
 }
 
 impl Session {
-    /// A session with an empty directed graph and no objects. It takes no memory.
+    /// A session with an empty directed graph, no objects, and nothing kept. It takes no memory.
     pub fn new(alloc: Global) -> Session
         ensures { result ≡ empty }
     {
@@ -70,6 +63,10 @@ impl Session {
             alloc,
             graph: Graph::new(alloc, Kind::Directed),
             objects: Objects::new(alloc),
+            kept: KeptAnswers {
+                sp: None,
+                matching: None,
+            },
             shown: None,
         }
     }
@@ -87,6 +84,8 @@ impl Session {
             (stored (F.files files.new) (F.faults files.new)) }
         // What the reply numbers has a name.
         ensures named { IsNamed result }
+        // What is to be kept can be.
+        ensures keepable { IsToKeep command.now result }
         // A reply of any length may be want of memory in its place, since nothing has changed.
         ensures quiet { IsQuietStep self.old (stored (F.files files.old) (F.faults files.old))
             command.now result self.new (stored (F.files files.new) (F.faults files.new)) }
@@ -107,13 +106,6 @@ impl Session {
             Word::Query(word) => self.query(word, command.args()),
         }
     }
-
-    /// Keeps the answer to a query, so that it can be checked later. It takes no memory.
-    ///
-    /// An answer to `reach` isn't kept.
-    pub fn keep(&mut self, command: Command, reply: Reply)
-        ensures { self.new ≡ with_kept command reply self.old }
-    {}
 
     /// An edit that nothing stands in the way of.
     fn edit(&mut self, word: EditWord, args: &[Arg]) -> Reply
@@ -164,80 +156,11 @@ impl Session {
         ensures does { LacksMemory (may_lack_memory (Word.Value word)) self.old result self.new
             ⊎ ValuesDone word args.now self.old.graph self.old.objects result self.new.objects }
         ensures graph { self.new.graph ≡ self.old.graph }
+        ensures kept { self.new.kept ≡ self.old.kept }
         ensures named { IsNamed result }
         ensures short { IsShort result }
     {
         self.objects.apply_table(&self.graph, word, args)
-    }
-
-    /// The reply to a query that nothing stands in the way of.
-    fn query(&mut self, word: QueryWord, args: &[Arg]) -> Reply
-        requires whole { IsWhole (record { word = Word.Query word; args = args.now }) }
-        requires met { AreMet self.old.graph (forms_of (Word.Query word)) args.now }
-        ensures state { self.new ≡ self.old }
-        ensures replies { LacksMemory (may_lack_memory (Word.Query word)) self.old result self.old
-            ⊎ Answers word args.now self.old result }
-        ensures named { IsNamed result }
-        ensures quiet { IsQuiet (may_lack_memory (Word.Query word)) self.old result self.old }
-    {
-        let Ok(shown) = self.take_shown() else {
-            return Reply::Refused(Refusal::Memory);
-        };
-        let reply = self.answer(&shown, word, args);
-        self.shown = Some(shown);
-        reply
-    }
-
-    /// The net of the visible graph, which the session keeps no more.
-    ///
-    /// # Errors
-    /// `NoMemory`, only where it had to be made.
-    fn take_shown(&mut self) -> Result<Shown, NoMemory>
-        ensures state { self.new ≡ self.old }
-        ensures shown { IfOk result (IsShown self.old.graph) }
-    {
-        match self.shown.take() {
-            Some(shown) => Ok(shown),
-            None => net(self.alloc, &self.graph),
-        }
-    }
-
-    /// The reply to a query, which is asked of the net.
-    fn answer(&self, shown: &Shown, word: QueryWord, args: &[Arg]) -> Reply
-        requires shown { IsShown self.now.graph shown.now }
-        requires whole { IsWhole (record { word = Word.Query word; args = args.now }) }
-        requires met { AreMet self.now.graph (forms_of (Word.Query word)) args.now }
-        ensures replies { LacksMemory (may_lack_memory (Word.Query word)) self.now result self.now
-            ⊎ Answers word args.now self.now result }
-        ensures named { IsNamed result }
-        ensures quiet { IsQuiet (may_lack_memory (Word.Query word)) self.now result self.now }
-    {
-        match word {
-            QueryWord::Reach => match args {
-                [Arg::Node(from), Arg::Node(to)] => self.reach(shown, *from, *to),
-                _ => unreachable!(),
-            },
-        }
-    }
-
-    fn reach(&self, shown: &Shown, from: u32, to: u32) -> Reply
-        requires shown { IsShown self.now.graph shown.now }
-        requires from { AreVisible self.now.graph (items.Node from ∷ []) }
-        requires to { AreVisible self.now.graph (items.Node to ∷ []) }
-        ensures replies { LacksMemory true self.now result self.now
-            ⊎ Answers queries.Reach (args.Node from ∷ args.Node to ∷ []) self.now result }
-        ensures named { IsNamed result }
-    {
-        let (Some(from), Some(to)) = (shown.places.place(from), shown.places.place(to)) else {
-            unreachable!()
-        };
-        let Ok(answer) = reach(self.alloc, &shown.net, from, to) else {
-            return Reply::Refused(Refusal::Memory);
-        };
-        match named(self.alloc, shown, Answer::Reach(answer)) {
-            Ok(named) => Reply::Query(named),
-            Err(NoMemory) => Reply::Refused(Refusal::Memory),
-        }
     }
 
     /// The refusal that tells what stands in a command's way.

@@ -14,8 +14,8 @@ use Rattle.node_maps.specs.Contents.{Values}
 abbrev pub Cell : Type 0
 Cell = ℕ × List ℤ
 
--- What an array or a map holds. An array covers the elements that were made up to a number, and has a
--- value for each; a map covers every element, and has a default for those without a value.
+-- What an array or a map holds. An array covers the elements that were made up to a number, and has
+-- a value for each; a map covers every element, and has a default for those without a value.
 pub record Valuation : Type 0 where
   pub covered : Option ℕ
   pub default : Option ℤ

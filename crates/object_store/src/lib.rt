@@ -13,6 +13,7 @@
 //! - `part` and `look`: what is read of an item and written to it; `near`: the items at the ends of
 //!   a list, and neighbours; `shown`: the items in order, as they are shown.
 //! - `change`: how a container changes that keeps its items; `drop`: how an object goes.
+//! - `listed`: the values of nodes or edges, one by one, for queries.
 //! - `edits`, `tables` and `objects`: the commands, and the session's objects; `apply`: a command
 //!   by its word.
 //!

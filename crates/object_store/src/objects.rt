@@ -191,8 +191,8 @@ impl Objects {
     }
 
     /// Takes an item into the object of the name, or refuses it: as full at 1,000,000 items of all
-    /// objects, and as spent where 16,777,215 numbers were given. Or it lacks memory. All is then as
-    /// it was.
+    /// objects, and as spent where 16,777,215 numbers were given. Or it lacks memory. Then all is
+    /// as it was.
     fn put_in(&mut self, name: &[u8], entrance: Entrance, value: i64) -> Reply
         requires there { has self.old (entrance_kinds entrance) name.now ≡ true }
         requires open { (o : Seen) → object_at self.old name.now ≡ Some o

@@ -58,4 +58,11 @@ impl Command {
     {
         self.args.as_slice()
     }
+
+    /// The arguments, which outlive the command.
+    pub fn into_args(self) -> SmallVec<Arg, 8, Global>
+        ensures { result.items ≡ self.args }
+    {
+        self.args
+    }
 }

@@ -60,6 +60,8 @@ const QUEUE: Form = Form::Object(Kinds::Queue);
 
 const VALUES: Form = Form::Object(Kinds::ElementValues);
 
+const EDGE_VALUES: Form = Form::Object(Kinds::EdgeValues);
+
 const CELL: Form = Form::Cell(Kinds::Container);
 
 const LIST_CELL: Form = Form::Cell(Kinds::List);
@@ -76,6 +78,8 @@ const NUM: Form = Form::Num;
 
 const NUMBERS: Form = Form::NumOrLabels;
 
+const KEPT: Form = Form::Kept;
+
 /// Writes the rows of a table, one a line: the spelling, the word, what is asked of each argument,
 /// and the memory.
 macro_rules! rows {
@@ -88,7 +92,7 @@ macro_rules! rows {
 pub(crate) use rows;
 
 /// The table. All that is said of a command before it runs is said here.
-pub(crate) const TABLE: [Entry; 78] = rows! {
+pub(crate) const TABLE: [Entry; 82] = rows! {
     "node"            Edit(EditWord::Node)             [LABEL]              Taken;
     "edge"            Edit(EditWord::Edge)             [NODE, NODE, LABEL]  Taken;
     "edge_before"     Edit(EditWord::EdgeBefore)       [EDGE, NODE, LABEL]  Taken;
@@ -167,6 +171,10 @@ pub(crate) const TABLE: [Entry; 78] = rows! {
     "get"             Value(ValueWord::Get)            [VALUES, LIVE]       NotTaken;
     "set"             Value(ValueWord::Set)            [VALUES, LIVE, NUM]  Taken;
     "reach"           Query(QueryWord::Reach)          [NODE, NODE]         TakenByReply;
+    "sp"              Query(QueryWord::Sp)             [NODE, EDGE_VALUES]  TakenByReply;
+    "dijkstra"        Query(QueryWord::Dijkstra)       [NODE, EDGE_VALUES]  TakenByReply;
+    "matching"        Query(QueryWord::Matching)       []                   TakenByReply;
+    "check"           Query(QueryWord::Check)          [KEPT]               TakenByReply;
 };
 
 /// The rows of the table.
@@ -215,3 +223,6 @@ fn first_spelled(rows: &[Entry], spelling: &[u8]) -> Option<Entry>
         .find(|entry| entry.0.as_bytes() == spelling)
         .copied()
 }
+
+#[cfg(test)]
+mod tests;

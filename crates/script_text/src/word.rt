@@ -106,6 +106,10 @@ pub enum ValueWord {
 #[derive(Clone, Copy, Debug, PartialEq, Eq)]
 pub enum QueryWord {
     Reach,
+    Sp,
+    Dijkstra,
+    Matching,
+    Check,
 }
 
 /// A command word.

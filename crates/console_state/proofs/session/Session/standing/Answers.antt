@@ -15,7 +15,7 @@ returns-in-Ok c =
     let o = c.self.inside.objects in
     let k = c.in-Node.number in
     subst (λ (s : State). c.seen_if.result ≡ standing s c.args.item) c.self.view_is
-    (subst (λ (x : ItemName). c.seen_if.result ≡ standing (record { graph = g; objects = o }) x) (sym c.in-Node.is)
+    (subst (λ (x : ItemName). c.seen_if.result ≡ standing (record { graph = g; objects = o; kept = c.self.inside.kept }) x) (sym c.in-Node.is)
     (c.seen_if.ensures ∙ ap (λ (b : Bool). if not b then Visible else Hidden) c.is_hidden.ensures
     ∙ stands_there k g.nodes (shows_node g k) (is_given g.made_nodes k) c.in-Ok.ensures.item.1))
 
@@ -25,7 +25,7 @@ returns-in-Err c =
     let o = c.self.inside.objects in
     let k = c.in-Node.number in
     subst (λ (s : State). c.gone.result ≡ standing s c.args.item) c.self.view_is
-    (subst (λ (x : ItemName). c.gone.result ≡ standing (record { graph = g; objects = o }) x) (sym c.in-Node.is)
+    (subst (λ (x : ItemName). c.gone.result ≡ standing (record { graph = g; objects = o; kept = c.self.inside.kept }) x) (sym c.in-Node.is)
     (c.gone.ensures ∙ stands_gone k g.made_nodes g.nodes (shows_node g k) c.in-Err.why c.in-Err.ensures.item.0 c.in-Err.ensures.item.1))
 
 pub returns-in-Ok-edge_item : goal.returns-in-Ok-edge_item
@@ -36,7 +36,7 @@ returns-in-Ok-edge_item c =
     let same = c.in-Ok-edge_item.ensures.item.0 in
     let there = c.in-Ok-edge_item.ensures.item.1 in
     subst (λ (s : State). c.seen_if-in-Ok-edge_item.result ≡ standing s c.args.item) c.self.view_is
-    (subst (λ (x : ItemName). c.seen_if-in-Ok-edge_item.result ≡ standing (record { graph = g; objects = o }) x) (sym c.in-Edge.is)
+    (subst (λ (x : ItemName). c.seen_if-in-Ok-edge_item.result ≡ standing (record { graph = g; objects = o; kept = c.self.inside.kept }) x) (sym c.in-Edge.is)
     (c.seen_if-in-Ok-edge_item.ensures
     ∙ ap (λ (b : Bool). if b then Visible else Hidden) (c.is_ok.ensures.value
     ∙ answered_shows g c.in-Ok-edge_item.edge.0.serial c.source.result c.source.ensures.visible c.source.ensures.err (subst (λ e. Has e g.edges) (sym same) there) ∙ ap (shows_edge g) same)
@@ -48,7 +48,7 @@ returns-in-Err-edge_item c =
     let o = c.self.inside.objects in
     let k = c.in-Edge.number in
     subst (λ (s : State). c.gone-in-Err-edge_item.result ≡ standing s c.args.item) c.self.view_is
-    (subst (λ (x : ItemName). c.gone-in-Err-edge_item.result ≡ standing (record { graph = g; objects = o }) x) (sym c.in-Edge.is)
+    (subst (λ (x : ItemName). c.gone-in-Err-edge_item.result ≡ standing (record { graph = g; objects = o; kept = c.self.inside.kept }) x) (sym c.in-Edge.is)
     (c.gone-in-Err-edge_item.ensures ∙ stands_gone k g.made_edges g.edges (shows_edge g k) c.in-Err-edge_item.why c.in-Err-edge_item.ensures.item.0 c.in-Err-edge_item.ensures.item.1))
 
 pub returns-in-Ok-find_cell : goal.returns-in-Ok-find_cell
@@ -57,7 +57,7 @@ returns-in-Ok-find_cell c =
     let o = c.self.inside.objects in
     let k = c.in-Cell.number in
     subst (λ (s : State). Visible ≡ standing s c.args.item) c.self.view_is
-    (subst (λ (x : ItemName). Visible ≡ standing (record { graph = g; objects = o }) x) (sym c.in-Cell.is)
+    (subst (λ (x : ItemName). Visible ≡ standing (record { graph = g; objects = o; kept = c.self.inside.kept }) x) (sym c.in-Cell.is)
     (subst (λ (b : Bool). Visible ≡ stands b true (is_given o.made k)) (sym (c.in-Ok-find_cell.ensures)) refl))
 
 pub returns-in-Err-find_cell : goal.returns-in-Err-find_cell
@@ -67,5 +67,5 @@ returns-in-Err-find_cell c =
     let k = c.in-Cell.number in
     let out = c.in-Err-find_cell.ensures in
     subst (λ (s : State). c.gone-in-Err-find_cell.result ≡ standing s c.args.item) c.self.view_is
-    (subst (λ (x : ItemName). c.gone-in-Err-find_cell.result ≡ standing (record { graph = g; objects = o }) x) (sym c.in-Cell.is)
+    (subst (λ (x : ItemName). c.gone-in-Err-find_cell.result ≡ standing (record { graph = g; objects = o; kept = c.self.inside.kept }) x) (sym c.in-Cell.is)
     (c.gone-in-Err-find_cell.ensures ∙ stands_unlisted k o.made (is_live o k) true c.in-Err-find_cell.why out.0 out.1))

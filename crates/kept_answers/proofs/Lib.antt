@@ -1,0 +1,5 @@
+mod Listed
+mod Shown
+mod Matchings
+mod Firsts
+mod Paths

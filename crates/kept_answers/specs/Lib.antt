@@ -1,0 +1,6 @@
+pub mod Shown
+pub mod Kept
+pub mod Checked
+pub mod Renamed
+pub mod Told
+pub mod Codes

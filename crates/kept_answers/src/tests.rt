@@ -1,0 +1,108 @@
+//! A matching that is kept, and the verdict on it once the graph is another.
+
+use crate::KeptMatching;
+use graph_core::{EdgeItem, Graph, Kind, NodeItem};
+use graph_defs::{Cond, MatchAnswer, Verdict};
+use hide_restore::{hide_edge, hide_node, net, restore_all};
+use leda_base::{NoMemory, Row};
+use reply_text::Answer;
+use std::alloc::Global;
+use std::process::Abort;
+use std::test::Fail;
+
+/// Four nodes, an edge from the first to the second and one from there to the third.
+fn build(alloc: Global, g: &mut Graph) -> Option<([NodeItem; 4], [EdgeItem; 2])> {
+    let v = g.new_node(Row::new(alloc)).ok()?;
+    let w = g.new_node(Row::new(alloc)).ok()?;
+    let u = g.new_node(Row::new(alloc)).ok()?;
+    let alone = g.new_node(Row::new(alloc)).ok()?;
+    let first = g.new_edge(v, w, Row::new(alloc)).ok()?;
+    let second = g.new_edge(w, u, Row::new(alloc)).ok()?;
+    Some(([v, w, u, alone], [first, second]))
+}
+
+/// The second edge is chosen, and the label of its first end covers both.
+fn keep(alloc: Global) -> Result<KeptMatching, NoMemory> {
+    let nodes = Row::from_slice(alloc, [1, 2, 3, 4].as_slice())?;
+    let edges = Row::from_slice(alloc, [1, 2].as_slice())?;
+    let answer = MatchAnswer {
+        edges: Row::from_slice(alloc, [1].as_slice())?,
+        cover: Row::from_slice(alloc, [0, 1, 0, 0].as_slice())?,
+    };
+    Ok(KeptMatching::new(nodes, edges, answer))
+}
+
+fn no(cond: Cond, place: u32) -> Verdict {
+    Verdict::No { cond, place }
+}
+
+/// Compares the verdict and the names with what they should be.
+fn see(
+    rt: &impl Abort,
+    alloc: Global,
+    g: &Graph,
+    want: Verdict,
+    nodes: &[u32],
+    edges: &[u32],
+) -> Result<(), Fail> {
+    let shown = net(alloc, g)?;
+    let named = keep(alloc)?.check(alloc, g, &shown)?;
+    let Answer::Verdict(verdict) = &named.answer else {
+        return Err("no verdict")?;
+    };
+    assert_eq!(rt; *verdict, want);
+    assert_eq!(rt; named.nodes.as_slice(), nodes);
+    assert_eq!(rt; named.edges.as_slice(), edges);
+    Ok(())
+}
+
+/// What is named isn't visible, or what is visible isn't named.
+fn see_absent(
+    rt: &impl Abort,
+    alloc: Global,
+    g: &mut Graph,
+    alone: NodeItem,
+    edges: [EdgeItem; 2],
+) -> Result<(), Fail> {
+    let all = [1, 2, 3, 4].as_slice();
+    assert_eq!(rt; hide_edge(g, edges[0]), Ok(()));
+    see(rt, alloc, g, Verdict::Yes, all, &[2])?;
+    assert_eq!(rt; hide_node(g, alone), Ok(()));
+    see(rt, alloc, g, no(Cond::Gone, 0), &[4], &[])?;
+    assert_eq!(rt; hide_edge(g, edges[1]), Ok(()));
+    see(rt, alloc, g, no(Cond::Gone, 0), &[], &[2])?;
+    restore_all(g);
+    let other = g.new_node(Row::new(alloc)).ok().ok_or("no node")?;
+    see(rt, alloc, g, no(Cond::Missing, 0), &[5], &[])?;
+    assert_eq!(rt; g.del_node(other), Ok(()));
+    see(rt, alloc, g, Verdict::Yes, all, &[1, 2])
+}
+
+/// An edge that isn't covered, one that is, a chosen one that is a loop, and none.
+fn see_edges(
+    rt: &impl Abort,
+    alloc: Global,
+    g: &mut Graph,
+    [v, w, u, _]: [NodeItem; 4],
+    chosen: EdgeItem,
+) -> Result<(), Fail> {
+    let all = [1, 2, 3, 4].as_slice();
+    let third = g.new_edge(v, u, Row::new(alloc)).ok().ok_or("no edge")?;
+    see(rt, alloc, g, no(Cond::Label, 2), all, &[1, 2, 3])?;
+    assert_eq!(rt; g.move_edge(third, u, w), Ok(()));
+    see(rt, alloc, g, Verdict::Yes, all, &[1, 2, 3])?;
+    assert_eq!(rt; g.move_edge(chosen, u, u), Ok(()));
+    see(rt, alloc, g, no(Cond::SelfLoop, 1), all, &[1, 2, 3])?;
+    assert_eq!(rt; g.del_edge(chosen), Ok(()));
+    see(rt, alloc, g, no(Cond::Gone, 0), &[], &[2])
+}
+
+#[test]
+fn a_kept_matching_is_checked_on_the_graph_as_it_is(rt: HostRuntime) -> Result<(), Fail> {
+    let alloc = rt.alloc();
+    let mut g = Graph::new(alloc, Kind::Directed);
+    let (nodes, edges) = build(alloc, &mut g).ok_or("no graph")?;
+    see(&rt, alloc, &g, Verdict::Yes, &[1, 2, 3, 4], &[1, 2])?;
+    see_absent(&rt, alloc, &mut g, nodes[3], edges)?;
+    see_edges(&rt, alloc, &mut g, nodes, edges[1])
+}
