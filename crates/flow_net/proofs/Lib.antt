@@ -1,0 +1,4 @@
+pub mod Flows
+pub mod Paths
+pub mod Rounds
+pub mod Steps
