@@ -15,7 +15,7 @@ use std::alloc::Global;
 /// A maximum flow from `s` to `t`, and a cut of its value: the nodes that augmenting paths still
 /// reach from `s`.
 ///
-/// J. Edmonds' and R. M. Karp's search by shortest augmenting paths, so there are at most n m / 2
+/// J. Edmonds' and R. M. Karp's search by shortest augmenting paths, so there are at most n m
 /// rounds, each in time linear in the nodes n and the arcs m, and no more rounds than the value of
 /// the flow. The memory is linear in n and m.
 ///
