@@ -1,8 +1,7 @@
 //! The strong components of the nodes that are reached from the source.
-ghost use Rattle.std.specs.Prelude.{◌≡◌, length};
 
+use crate::graph::Graph;
 use crate::rows::{NONE, at, put};
-use graph_defs::{Grouped, Incidence};
 use leda_base::NoMemory;
 use std::alloc::Global;
 
@@ -19,7 +18,7 @@ pub(crate) struct Components {
     number: Vec<u32>,
     // the least number that a node is known to lead to
     least: Vec<u32>,
-    // how much of its row was looked at, and the node that it was reached from
+    // how far its row was looked at, and the node that it was reached from
     looked: Vec<u32>,
     above: Vec<u32>,
     // the nodes whose components aren't known
@@ -34,14 +33,8 @@ pub(crate) struct Components {
 }
 
 impl Components {
-    pub(crate) fn of(
-        alloc: Global,
-        n: u32,
-        rows: &Grouped,
-        source: u32,
-    ) -> Result<Components, NoMemory>
-        requires { length rows.now ≡ n }
-    {
+    pub(crate) fn of(alloc: Global, graph: &Graph, source: u32) -> Result<Components, NoMemory> {
+        let n = graph.count;
         let mut components = Components {
             n,
             number: vec![in alloc; 0u32; n as usize]?,
@@ -55,17 +48,13 @@ impl Components {
             begins: vec![in alloc; 0u32; n as usize]?,
             count: 0,
         };
-        components.reach(source, NONE);
-        components.search(n, rows, source);
+        components.reach(graph, source, NONE);
+        components.search(graph, source);
         Ok(components)
     }
 
     pub(crate) fn count(&self) -> u32 {
         self.count
-    }
-
-    pub(crate) fn is_reached(&self, node: u32) -> bool {
-        at(self.number.as_slice(), node) != 0
     }
 
     // The node at a place of the order in which each component stands before those to which arcs
@@ -84,27 +73,26 @@ impl Components {
         self.count.wrapping_sub(1).wrapping_sub(place)
     }
 
-    fn reach(&mut self, node: u32, above: u32) {
+    fn reach(&mut self, graph: &Graph, node: u32, above: u32) {
         self.reached = self.reached.wrapping_add(1);
         put(self.number.as_mut_slice(), node, self.reached);
         put(self.least.as_mut_slice(), node, self.reached);
+        put(self.looked.as_mut_slice(), node, graph.offset(node));
         put(self.above.as_mut_slice(), node, above);
         put(self.stack.as_mut_slice(), self.height, node);
         self.height = self.height.wrapping_add(1);
     }
 
     // Each step down reaches a node, and each step up leaves one for good.
-    fn search(&mut self, n: u32, rows: &Grouped, source: u32)
-        requires { length rows.now ≡ n }
-    {
+    fn search(&mut self, graph: &Graph, source: u32) {
         let mut node = source;
-        for _ in 0..n.saturating_mul(2) {
-            if node >= n {
+        for _ in 0..self.n.saturating_mul(2) {
+            if node == NONE {
                 return;
             }
-            let next = self.next(rows.row(node), node);
+            let next = self.next(graph, node);
             if next != NONE {
-                self.reach(next, node);
+                self.reach(graph, next, node);
                 node = next;
             } else {
                 self.close(node);
@@ -117,20 +105,22 @@ impl Components {
     }
 
     // The next node of a row that wasn't reached, or NONE. The others before it are noted.
-    fn next(&mut self, row: &[Incidence], node: u32) -> u32 {
-        let looked = at(self.looked.as_slice(), node);
-        let mut place = looked;
-        for entry in row.iter().skip(looked as usize) {
-            place = place.wrapping_add(1);
-            let number = at(self.number.as_slice(), entry.end);
+    fn next(&mut self, graph: &Graph, node: u32) -> u32 {
+        let mut offset = at(self.looked.as_slice(), node);
+        let mut least = at(self.least.as_slice(), node);
+        let mut next = NONE;
+        for hop in graph.row_from(node, offset) {
+            offset = offset.wrapping_add(1);
+            let number = at(self.number.as_slice(), hop.to);
             if number == 0 {
-                put(self.looked.as_mut_slice(), node, place);
-                return entry.end;
+                next = hop.to;
+                break;
             }
-            self.lower(node, number);
+            least = least.min(number);
         }
-        put(self.looked.as_mut_slice(), node, place);
-        NONE
+        put(self.looked.as_mut_slice(), node, offset);
+        put(self.least.as_mut_slice(), node, least);
+        next
     }
 
     fn lower(&mut self, node: u32, number: u32) {

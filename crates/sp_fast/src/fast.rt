@@ -1,88 +1,139 @@
 //! The fast search.
-ghost use Rattle.graph_defs.specs.Net.{IsValid};
 
 use crate::components::Components;
 use crate::graph::Graph;
-use crate::labels::Labels;
+use crate::labels::{End, Labels};
 use crate::lows::{Block, Lows};
+use crate::passes::Passes;
 use crate::rows::{NONE, at, is_set, put, set};
-use graph_defs::{Finite, Grouped, Net, SpAnswer};
+use crate::trees::Trees;
+use graph_defs::{Finite, Low, Net, SpAnswer};
 use leda_base::{NoMemory, Row};
 use std::alloc::Global;
 
+// How often the arcs may be looked at for a tree of last arcs to be corrected: where the whole net
+// is gone over, and within a component.
+#[derive(Clone, Copy)]
+pub(crate) struct Patience {
+    pub(crate) whole: u32,
+    pub(crate) within: u32,
+}
+
+pub(crate) const PATIENCE: Patience = Patience {
+    whole: 3,
+    within: 4,
+};
+
 // Distances, seeds and low nodes. Nothing is claimed of them here.
-pub(crate) fn propose(alloc: Global, net: &Net, s: u32, cost: &[i64]) -> Result<SpAnswer, NoMemory>
-    requires { IsValid net.now }
-{
-    let rows = Grouped::by(alloc, net.n, net.arcs.as_slice())?;
-    let components = Components::of(alloc, net.n, &rows, s)?;
-    let graph = Graph::new(alloc, net.n, &rows, cost, &components)?;
-    let mut labels = Labels::new(alloc, graph.count)?;
-    let mut lows = Lows::new(alloc, graph.count)?;
-    settle(alloc, &graph, &mut labels, &mut lows)?;
-    let finite = finite_of(alloc, &graph, &labels, &lows)?;
-    let unreached = unreached_of(alloc, net.n, &components)?;
-    let Lows { low, seeds, .. } = lows;
-    Ok(SpAnswer {
-        finite: Row::from_vec(finite),
-        seeds: Row::from_vec(seeds),
-        low: Row::from_vec(low),
-        unreached: Row::from_vec(unreached),
-    })
-}
-
-// One component after another.
-fn settle(
+pub(crate) fn propose(
     alloc: Global,
-    graph: &Graph,
-    labels: &mut Labels,
-    lows: &mut Lows,
-) -> Result<(), NoMemory> {
-    let mut begin = 0;
-    for _ in 0..graph.count {
-        if begin >= graph.count {
-            break;
-        }
-        let end = graph.end_at(begin);
-        if !lows.is_low(begin) {
-            settle_one(alloc, graph, labels, lows, begin, end)?;
-        }
-        begin = end;
+    net: &Net,
+    s: u32,
+    cost: &[i64],
+    patience: Patience,
+) -> Result<SpAnswer, NoMemory> {
+    let graph = Graph::whole(alloc, net, cost)?;
+    let mut search = Search::new(alloc, graph.count, s)?;
+    let end = search
+        .trees
+        .correct(&graph, &mut search.labels, 0, graph.count, patience.whole);
+    if let End::Settled = end {
+        return search.answer(alloc, net.n, &graph);
     }
-    Ok(())
+    let components = Components::of(alloc, &graph, s)?;
+    let graph = graph.in_order(alloc, &components)?;
+    let mut search = Search::new(alloc, graph.count, 0)?;
+    search.settle(alloc, &graph, patience.within)?;
+    search.answer(alloc, net.n, &graph)
 }
 
-fn settle_one(
-    alloc: Global,
-    graph: &Graph,
-    labels: &mut Labels,
-    lows: &mut Lows,
-    begin: u32,
-    end: u32,
-) -> Result<(), NoMemory> {
-    let mut entry = begin;
-    for place in begin..end {
-        if labels.is_labelled(place) {
-            entry = place;
-            break;
-        }
-    }
-    let gate = labels.label_at(entry);
-    let place = labels.correct(graph, begin, end);
-    if place == NONE {
-        labels.leave(graph, begin, end);
-        return Ok(());
-    }
-    let block = Block {
-        begin,
-        end,
-        entry,
-        gate,
-    };
-    lows.add(alloc, graph, labels, block, place)
+#[derive(Drop)]
+struct Search {
+    labels: Labels,
+    trees: Trees,
+    passes: Passes,
+    lows: Lows,
 }
 
-// The nodes that aren't low, each behind the one that its last arc comes from.
+impl Search {
+    fn new(alloc: Global, count: u32, source: u32) -> Result<Search, NoMemory> {
+        Ok(Search {
+            labels: Labels::new(alloc, count, source)?,
+            trees: Trees::new(alloc, count)?,
+            passes: Passes::new(alloc, count)?,
+            lows: Lows::new(alloc, count)?,
+        })
+    }
+
+    // One component after another.
+    fn settle(&mut self, alloc: Global, graph: &Graph, often: u32) -> Result<(), NoMemory> {
+        let mut begin = 0;
+        for _ in 0..graph.count {
+            if begin >= graph.count {
+                break;
+            }
+            let end = graph.end_at(begin);
+            if !self.lows.is_low(begin) {
+                self.settle_one(alloc, graph, begin, end, often)?;
+            }
+            begin = end;
+        }
+        Ok(())
+    }
+
+    fn settle_one(
+        &mut self,
+        alloc: Global,
+        graph: &Graph,
+        begin: u32,
+        end: u32,
+        often: u32,
+    ) -> Result<(), NoMemory> {
+        let entry = self.labels.first(begin, end);
+        let gate = self.labels.get(entry);
+        match self.correct(graph, begin, end, often) {
+            End::Settled | End::Unsettled => {
+                self.labels.leave(graph, begin, end);
+                Ok(())
+            }
+            End::Cycle(place) => {
+                let block = Block {
+                    begin,
+                    end,
+                    entry,
+                    gate,
+                };
+                self.lows.add(alloc, graph, &self.labels, block, place)
+            }
+        }
+    }
+
+    fn correct(&mut self, graph: &Graph, begin: u32, end: u32, often: u32) -> End {
+        match self
+            .trees
+            .correct(graph, &mut self.labels, begin, end, often)
+        {
+            End::Settled => End::Settled,
+            End::Cycle(place) => End::Cycle(place),
+            End::Unsettled => self.passes.correct(graph, &mut self.labels, begin, end),
+        }
+    }
+
+    fn answer(self, alloc: Global, n: u32, graph: &Graph) -> Result<SpAnswer, NoMemory> {
+        let finite = finite_of(alloc, graph, &self.labels, &self.lows)?;
+        let Search { lows, .. } = self;
+        let Lows { low, seeds, .. } = lows;
+        let unreached = unreached_of(alloc, n, finite.as_slice(), low.as_slice())?;
+        Ok(SpAnswer {
+            finite: Row::from_vec(finite),
+            seeds: Row::from_vec(seeds),
+            low: Row::from_vec(low),
+            unreached: Row::from_vec(unreached),
+        })
+    }
+}
+
+// The nodes with labels that aren't low, each behind the one that its last arc comes from.
 fn finite_of(
     alloc: Global,
     graph: &Graph,
@@ -96,13 +147,13 @@ fn finite_of(
         let mut height = 0u32;
         let mut here = place;
         for _ in 0..graph.count {
-            if here >= graph.count || lows.is_low(here) || is_set(told.as_slice(), here) {
+            if labels.is_free(here) || lows.is_low(here) || is_set(told.as_slice(), here) {
                 break;
             }
             set(told.as_mut_slice(), here);
             put(stack.as_mut_slice(), height, here);
             height = height.wrapping_add(1);
-            here = labels.label_at(here).from;
+            here = labels.get(here).from;
         }
         for turn in 0..height {
             let above = height.wrapping_sub(1).wrapping_sub(turn);
@@ -114,7 +165,7 @@ fn finite_of(
 }
 
 fn told_of(graph: &Graph, labels: &Labels, place: u32) -> Finite {
-    let label = labels.label_at(place);
+    let label = labels.get(place);
     let pred = if label.arc == NONE {
         None
     } else {
@@ -127,10 +178,23 @@ fn told_of(graph: &Graph, labels: &Labels, place: u32) -> Finite {
     }
 }
 
-fn unreached_of(alloc: Global, n: u32, components: &Components) -> Result<Vec<u32>, NoMemory> {
+// The nodes that are neither finite nor low, in their order.
+fn unreached_of(
+    alloc: Global,
+    n: u32,
+    finite: &[Finite],
+    low: &[Low],
+) -> Result<Vec<u32>, NoMemory> {
+    let mut reached = vec![in alloc; false; n as usize]?;
+    for one in finite {
+        set(reached.as_mut_slice(), one.node);
+    }
+    for one in low {
+        set(reached.as_mut_slice(), one.node);
+    }
     let mut unreached = Vec::new(alloc);
     for node in 0..n {
-        if !components.is_reached(node) {
+        if !is_set(reached.as_slice(), node) {
             unreached.push(node)?;
         }
     }

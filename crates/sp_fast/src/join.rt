@@ -5,7 +5,7 @@ ghost use Rattle.graph_defs.specs.Net.{IsValid};
 ghost use Rattle.graph_defs.specs.Shortest.{IsSpAnswer};
 ghost use Rattle.sp_search.specs.Refusals.{sizes, MayRefuse};
 
-use crate::fast::propose;
+use crate::fast::{PATIENCE, propose};
 use graph_defs::{Net, SpAnswer, Verdict};
 use leda_base::NoMemory;
 use sp_check::check_sp;
@@ -49,7 +49,7 @@ fn with_negative(alloc: Global, net: &Net, s: u32, cost: &[i64]) -> Result<SpAns
     if !is_within_bound(cost) {
         return Err(SpRefusal::Bound);
     }
-    match propose(alloc, net, s, cost) {
+    match propose(alloc, net, s, cost, PATIENCE) {
         Ok(answer) => checked_or(alloc, net, s, cost, answer),
         Err(_) => Err(SpRefusal::NoMemory),
     }

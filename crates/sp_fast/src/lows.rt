@@ -54,7 +54,7 @@ impl Lows {
         let mut here = place;
         for _ in block.begin..block.end {
             self.find(graph, here, Why::Seed(number))?;
-            here = labels.label_at(here).from;
+            here = labels.get(here).from;
             if here == place {
                 break;
             }
@@ -105,7 +105,7 @@ impl Lows {
         let mut cycle = Vec::new(alloc);
         let mut here = end;
         for _ in block.begin..block.end {
-            let label = labels.label_at(here);
+            let label = labels.get(here);
             cycle.push(label.arc)?;
             here = label.from;
             if here == end {

@@ -1,7 +1,7 @@
 //! Answers for small nets, beside those of the complete search.
 
 use super::*;
-use crate::fast::propose;
+use crate::fast::{PATIENCE, Patience, propose};
 use crate::join::{checked_or, is_right};
 use graph_defs::{Finite, Low, Net, SpAnswer, Why};
 use leda_base::{NoMemory, Row};
@@ -36,11 +36,16 @@ fn asked(
 }
 
 // What the fast search proposes, which has to be right.
-fn proposed(rt: &impl Abort, alloc: Global, q: &Question) -> Result<SpAnswer, Fail> {
+fn proposed(
+    rt: &impl Abort,
+    alloc: Global,
+    q: &Question,
+    patience: Patience,
+) -> Result<SpAnswer, Fail> {
     let cost = q.cost.as_slice();
     assert!(rt; q.net.is_valid() && q.s < q.net.n);
     assert!(rt; cost.len() == q.net.arcs.as_slice().len());
-    let answer = propose(alloc, &q.net, q.s, cost)?;
+    let answer = propose(alloc, &q.net, q.s, cost, patience)?;
     assert!(rt;
         is_right(alloc, &q.net, q.s, cost, &answer)?,
         "the proposal is refused"
@@ -95,13 +100,20 @@ fn agree(
     Ok(())
 }
 
-// The proposal, which agrees with what is answered and with what the complete search answers.
+// What is answered. It agrees with what the complete search answers, and with what the fast one
+// proposes, also where it goes through the components and where it corrects them in passes.
 fn compare(rt: &impl Abort, alloc: Global, q: &Question) -> Result<SpAnswer, Fail> {
-    let answer = proposed(rt, alloc, q)?;
-    let other = told(rt, alloc, q).ok().expect(rt, "an answer");
-    agree(rt, alloc, q.net.n, &answer, &other)?;
+    let answer = told(rt, alloc, q).ok().expect(rt, "an answer");
     let complete = searched(rt, alloc, q).ok().expect(rt, "an answer");
     agree(rt, alloc, q.net.n, &answer, &complete)?;
+    for (whole, within) in [
+        (PATIENCE.whole, PATIENCE.within),
+        (0, PATIENCE.within),
+        (0, 0),
+    ] {
+        let proposal = proposed(rt, alloc, q, Patience { whole, within })?;
+        agree(rt, alloc, q.net.n, &answer, &proposal)?;
+    }
     Ok(answer)
 }
 
@@ -200,6 +212,29 @@ fn each_component_has_its_seed(rt: HostRuntime) -> Result<(), Fail> {
     assert_eq!(rt; answer.finite.as_slice().len(), 2);
     assert_eq!(rt; answer.seeds.as_slice().len(), 2);
     assert_eq!(rt; answer.low.as_slice().len(), 5);
+    Ok(())
+}
+
+// A component where the labels of nearly all nodes fall each time that a node's arcs are looked at,
+// if nodes are taken as they come.
+#[test]
+fn labels_that_fall_often_are_corrected_in_passes(rt: HostRuntime) -> Result<(), Fail> {
+    let n = 100u32;
+    let mut arcs = vec![in rt.alloc(); (n - 1, 0u32)]?;
+    let mut costs = vec![in rt.alloc(); 1_000_000_000i64]?;
+    for from in 0..n {
+        for turn in 0..n {
+            let to = n - 1 - turn;
+            if from < to {
+                let far = i64::from(to - from);
+                arcs.push((from, to))?;
+                costs.push(far.wrapping_mul(far) - 10_000)?;
+            }
+        }
+    }
+    let q = asked(rt.alloc(), n, 0, arcs.as_slice(), costs.as_slice())?;
+    let answer = compare(&rt, rt.alloc(), &q)?;
+    assert_eq!(rt; answer.finite.as_slice().len(), 100);
     Ok(())
 }
 
