@@ -9,7 +9,7 @@ use Rattle.std.proofs.lemmas.Cmp.{by_ranked, int_ranked}
 use Rattle.graph_defs.specs.declared.net.Net.{Net}
 use Rattle.graph_defs.specs.declared.shortest.Why.{Why}
 use Rattle.graph_defs.specs.declared.shortest.Why.TheVariants.{Seed, Arc}
-use Rattle.graph_defs.specs.Net.{IsValid, source, target}
+use Rattle.graph_defs.specs.Net.{source, target}
 use Rattle.graph_defs.specs.Shortest.{weight, AreBelow}
 use Rattle.graph_defs.specs.Walk.{IsWalk}
 use Rattle.graph_defs.proofs.Numbers.{all_false, count_false}
@@ -20,6 +20,7 @@ use Rattle.sp_search.specs.declared.tags.Tag.{Tag}
 use Rattle.sp_search.specs.Finding.{found_at, is_marked, IsFoundBy, IsFinding, HasGrown, IsClosedAlong}
 use Rattle.sp_search.specs.Tags.{far, length_of, tag_at, label_of, IsPriced, IsTaggedBy, IsTagged, AreAbove}
 use Rattle.sp_search.specs.Forest.{last_by, last_at, IsRoot, AreLastArcs, IsTreeOf, IsStray, AreMarked, IsClimb, CanClimb, IsLastArc, IsBack, StandsIn, IsTurned, IsLoop}
+use Rattle.sp_search.specs.Wide.{IsWide}
 use Rattle.sp_search.proofs.Falls.{length_low}
 use Rattle.sp_search.proofs.Findings.{mark_same, mark_other, one_less, marked_below, once_push, place_of}
 
@@ -232,7 +233,7 @@ module _ (net : Net) (s : ℕ) (cost : List ℤ) (shut : List Bool) (tags : List
       (h.0, h.2, b.0, b.1)
 
   -- one can climb from stray nodes
-  module _ (valid : IsValid net) (queue : List Found) (marks : List Bool) (tree : IsTreeOf net s tags queue marks) where
+  module _ (wide : IsWide net) (queue : List Found) (marks : List Bool) (tree : IsTreeOf net s tags queue marks) where
     climb_arc : (v arc : ℕ) → IsStray tags marks v → last_by tags v ≡ Some arc → (is_marked marks (source net arc) ≡ true) ⊎ (is_marked marks (source net arc) ≡ false)
         → IsClimb net tags marks v arc
     climb_arc v arc h e (inl m) =
@@ -243,7 +244,7 @@ module _ (net : Net) (s : ℕ) (cost : List ℤ) (shut : List Bool) (tags : List
         absurd (both_ways (is_marked marks v) h.missed (sym (ap (is_marked marks) b.1) ∙ c))
     climb_arc v arc h e (inr m) =
         let b = by_arc v arc e in
-        let l : source net arc < net.n = (valid.ends arc (0, 0) b.0).0 in
+        let l : source net arc < net.n = (wide.ends arc (0, 0) b.0).0 in
         record {
           by = e;
           known = b.0;
@@ -304,7 +305,7 @@ module _ (net : Net) (s : ℕ) (cost : List ℤ) (shut : List Bool) (tags : List
           let p = place_of queue marks tree.is.once v m in
           let lp : p.0 < length queue = p.1 in
           let c = tree.is.count in
-          let n = valid.limits.nodes in
+          let n = wide.limits.nodes in
           let e = ap (label_of tags) p.2 in
           let b = place_low (suc p.0) p.0 (omega arith) lp in
           omega (arith, ints)

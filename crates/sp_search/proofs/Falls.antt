@@ -5,12 +5,13 @@ use Rattle.std.specs.Prelude.{Option, Some, None, MatchBool}
 use Rattle.std.proofs.lemmas.Bool.{cases_eq, cases_lt, both_ways}
 use Rattle.std.proofs.lemmas.List.{length-replicate}
 use Rattle.graph_defs.specs.declared.net.Net.{Net}
-use Rattle.graph_defs.specs.Net.{IsValid, source, target}
+use Rattle.graph_defs.specs.Net.{source, target}
 use Rattle.graph_defs.specs.Walk.{IsWalk}
 use Rattle.graph_defs.proofs.Weights.{arcs_push}
 use Rattle.sp_search.specs.declared.tags.Tag.{Tag}
 use Rattle.sp_search.specs.Finding.{is_marked}
 use Rattle.sp_search.specs.Tags.{far, length_of, tag_at, label_of, IsPriced, IsTaggedBy, IsTagged, AreAbove, total, IsSettledAlong, HasStayed, HasFallen, IsLess, AreSettled}
+use Rattle.sp_search.specs.Wide.{IsWide}
 
 -- ---- the length of an arc
 module _ (net : Net) (cost : List ℤ) (q : IsPriced net cost) where
@@ -71,11 +72,11 @@ by_falls net s cost tags tags' v label (Some arc) falls b =
     (b.0, b.1, omega (arith, ints), omega (arith, ints), b.4)
 
 -- ---- along one arc
-module _ (net : Net) (cost : List ℤ) (shut : List Bool) (arc : ℕ) (tags : List Tag) (valid : IsValid net) (l : arc < length net.arcs)
+module _ (net : Net) (cost : List ℤ) (shut : List Bool) (arc : ℕ) (tags : List Tag) (wide : IsWide net) (l : arc < length net.arcs)
     (long : length tags ≡ net.n) (begins : label_of tags (source net arc) <ℤ far) (goes : is_marked shut (target net arc) ≡ false)
     (z : ℤ) (ze : z ≡ (label_of tags (source net arc) +ℤ length_of cost arc)) (falls : z <ℤ label_of tags (target net arc)) where
   within : target net arc < length tags
-  within = let e = (valid.ends arc (0, 0) l).1 in omega (arith, long)
+  within = let e = (wide.ends arc (0, 0) l).1 in omega (arith, long)
 
   lower : (v : ℕ) → label_of (set tags (target net arc) (record { label = z; by = Some arc })) v ≤ℤ label_of tags v
   lower v = never_rises tags (target net arc) (record { label = z; by = Some arc }) within falls v
@@ -176,12 +177,12 @@ module _ (net : Net) (cost : List ℤ) (shut : List Bool) (k : ℕ) (falls : Boo
       let z : ℤ = label_of tags' (source net k) +ℤ length_of cost k in
       let P : List Tag → Type 0 = λ xs. IsInRound net cost shut (k + 1) true tags xs in
       let low = length_low net cost q k in
-      let t = total_falls tags' (target net k) (record { label = z; by = Some k }) (within net cost shut k tags' q.valid l r.long f.begins f.goes z refl f.falls) f.falls in
+      let t = total_falls tags' (target net k) (record { label = z; by = Some k }) (within net cost shut k tags' q.wide l r.long f.begins f.goes z refl f.falls) f.falls in
       let m = less_or_same net cost shut k falls tags tags' r.so_far in
       subst P (sym f.is) (record {
         long = length-set tags' (target net k) (record { label = z; by = Some k }) ∙ r.long;
-        tagged = λ s a. tagged_more net cost shut k tags' q.valid l r.long f.begins f.goes z refl f.falls s (r.tagged s a);
-        above = λ v. (let b = above_cases net cost shut k tags' q.valid l r.long f.begins f.goes z refl f.falls (10 ^ 31 + k * 10 ^ 25) v r.above low (cases_eq v (target net k)) in omega (arith, ints));
+        tagged = λ s a. tagged_more net cost shut k tags' q.wide l r.long f.begins f.goes z refl f.falls s (r.tagged s a);
+        above = λ v. (let b = above_cases net cost shut k tags' q.wide l r.long f.begins f.goes z refl f.falls (10 ^ 31 + k * 10 ^ 25) v r.above low (cases_eq v (target net k)) in omega (arith, ints));
         so_far = omega (arith, ints);
       })
 

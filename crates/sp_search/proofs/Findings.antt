@@ -11,11 +11,12 @@ use Rattle.graph_defs.specs.declared.shortest.Why.{Why}
 use Rattle.graph_defs.specs.declared.shortest.Why.TheVariants.{Seed, Arc}
 use Rattle.graph_defs.specs.Count.{times}
 use Rattle.graph_defs.specs.Grouped.{grouped, incidence}
-use Rattle.graph_defs.specs.Net.{IsValid, source, target}
+use Rattle.graph_defs.specs.Net.{source, target}
 use Rattle.graph_defs.proofs.Counts.{times_append, times_same, times_other, times_has, has_times}
 use Rattle.graph_defs.proofs.Incidences.{grouped_only, grouped_has}
 use Rattle.sp_search.specs.declared.finding.Found.{Found}
 use Rattle.sp_search.specs.Finding.{found_at, found_nodes, is_marked, IsAdded, IsKnown, IsOpenable, found_by, StandOnce, HasSpread, IsFoundBy, IsFinding, HasGrown, IsClosedAlong, IsUnderWay}
+use Rattle.sp_search.specs.Wide.{IsWide}
 
 -- ---- marks
 pub mark_same : (marks : List Bool) (w : ℕ) → w < length marks → is_marked (set marks w true) w ≡ true
@@ -210,7 +211,7 @@ found_kept net opened queue queue' k h same b =
     let P : Found → Type 0 = λ f. IsFoundBy net opened queue' k f f.why in
     subst P (sym (same k h)) (by_kept net opened queue queue' k (found_at queue k) (found_at queue k).why (omega arith) same b)
 
-module _ (net : Net) (opened : List Bool) (queue : List Found) (marks : List Bool) (row : List Incidence) (head : ℕ) (valid : IsValid net)
+module _ (net : Net) (opened : List Bool) (queue : List Found) (marks : List Bool) (row : List Incidence) (head : ℕ) (wide : IsWide net)
     (is : IsFinding net opened queue marks) (hh : head < length queue) (re : row ≡ get_or (grouped net.n net.arcs) (found_at queue head).node []) where
   row_entry : (entry : Incidence) → Contains row entry → (entry.number < length net.arcs) × (source net entry.number ≡ (found_at queue head).node) × (entry.end ≡ target net entry.number)
   row_entry entry c =
@@ -222,7 +223,7 @@ module _ (net : Net) (opened : List Bool) (queue : List Found) (marks : List Boo
   row_openable e k d h =
       let c : Contains row (get_or row k d) = (k, h, get_or_default row k (get_or row k d) d h) in
       let b = row_entry (get_or row k d) c in
-      let t = (valid.ends (get_or row k d).number (0, 0) b.0).1 in
+      let t = (wide.ends (get_or row k d).number (0, 0) b.0).1 in
       let q = b.2 in
       let l = is.long in
       record { inside = omega arith; known = omega (arith, b.0) }
@@ -256,7 +257,7 @@ module _ (net : Net) (opened : List Bool) (queue : List Found) (marks : List Boo
     row_done arc l e o =
         let P : ℕ → Type 0 = λ u. Contains (get_or (grouped net.n net.arcs) u []) (incidence net.arcs arc) in
         let Q : List Incidence → Type 0 = λ xs. Contains xs (incidence net.arcs arc) in
-        let c = subst Q (sym re) (subst P e (grouped_has net.n net.arcs arc (valid.ends arc (0, 0) l).0 l)) in
+        let c = subst Q (sym re) (subst P e (grouped_has net.n net.arcs arc (wide.ends arc (0, 0) l).0 l)) in
         let lc : c.0 < length row = c.1 in
         let R : Incidence → Type 0 = λ y. is_marked opened y.number ≡ true → is_marked marks' y.end ≡ true in
         subst R c.2 (s.done c.0 (incidence net.arcs arc) (omega arith) lc) o
@@ -285,7 +286,7 @@ grown_on queue marks queue' marks' queue'' marks'' g h = record {
 pub way_start : (net : Net) (opened : List Bool) (queue : List Found) (marks : List Bool) → IsFinding net opened queue marks → IsUnderWay net opened queue marks 0 queue marks
 way_start net opened queue marks is = record { is = is; grown = grown_start queue marks; behind = omega arith; done = λ k arc l. absurd (omega arith) }
 
-module _ (net : Net) (opened : List Bool) (queue : List Found) (marks : List Bool) (head : ℕ) (queue' : List Found) (marks' : List Bool) (valid : IsValid net)
+module _ (net : Net) (opened : List Bool) (queue : List Found) (marks : List Bool) (head : ℕ) (queue' : List Found) (marks' : List Bool) (wide : IsWide net)
     (way : IsUnderWay net opened queue marks head queue' marks') where
   module _ (row : List Incidence) (hh : head < length queue') (re : row ≡ get_or (grouped net.n net.arcs) (found_at queue' head).node [])
       (queue'' : List Found) (marks'' : List Bool) (s : HasSpread row opened head (length row) queue' marks' queue'' marks'') where
@@ -296,14 +297,14 @@ module _ (net : Net) (opened : List Bool) (queue : List Found) (marks : List Boo
     done_cases k arc (inr l) m n e o =
         let q : k ≡ head = omega arith in
         let P : ℕ → Type 0 = λ i. source net arc ≡ (found_at queue'' i).node in
-        row_done net opened queue' marks' row head valid way.is hh re (length row) queue'' marks'' (omega arith) s arc n
+        row_done net opened queue' marks' row head wide way.is hh re (length row) queue'' marks'' (omega arith) s arc n
         (subst P q e ∙ ap (λ (f : Found). f.node) (s.same head hh)) o
 
     pub way_more : IsUnderWay net opened queue marks (head + 1) queue'' marks''
     way_more = record {
-      is = row_finding net opened queue' marks' row head valid way.is hh re (length row) queue'' marks'' (omega arith) s;
+      is = row_finding net opened queue' marks' row head wide way.is hh re (length row) queue'' marks'' (omega arith) s;
       grown = grown_on queue marks queue' marks' queue'' marks'' way.grown
-          (row_grown net opened queue' marks' row head valid way.is hh re (length row) queue'' marks'' (omega arith) s);
+          (row_grown net opened queue' marks' row head wide way.is hh re (length row) queue'' marks'' (omega arith) s);
       behind = omega (arith, s.longer);
       done = λ k arc l m e o. done_cases k arc (cases_lt k head) l m e o;
     }

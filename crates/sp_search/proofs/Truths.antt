@@ -147,8 +147,8 @@ module _ (net : Net) (s : ℕ) (cost : List ℤ) (q : IsPriced net cost) (hs : s
   measured zero k l h = absurd (omega arith)
   measured (suc m) k l h = measured_by k h (λ j n. measured m j (omega arith) (omega arith)) (found_at queue k).why refl
 
-  few : (k : ℕ) → k < length queue → k < 100000
-  few k h = let c = st.tree.is.count in let n = q.valid.limits.nodes in omega arith
+  few : (k : ℕ) → k < length queue → k < 131071
+  few k h = let c = st.tree.is.count in let n = q.wide.limits.nodes in omega arith
 
   shorter_at : (arc j k : ℕ) → arc < length net.arcs → j < length queue → k < length queue → source net arc ≡ (found_at queue j).node → target net arc ≡ (found_at queue k).node
       → (settled_at finite k).dist ≤ℤ ((settled_at finite j).dist +ℤ at cost arc)
@@ -394,7 +394,7 @@ module _ (net : Net) (s : ℕ) (cost : List ℤ) (q : IsPriced net cost) (hs : s
         seeds = seed_below;
         low = low_below;
         unreached = filter_below (neither marks lm) net.n;
-        count = (let m = low.many in let c = low.is.count in let n = q.valid.limits.nodes in omega arith);
+        count = (let m = low.many in let c = low.is.count in let n = q.wide.limits.nodes in omega arith);
       };
       once = once_at;
       source = source_by (either_way (is_marked lm s));

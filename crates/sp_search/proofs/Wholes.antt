@@ -21,6 +21,7 @@ use Rattle.sp_search.specs.Refusals.{sizes}
 use Rattle.sp_search.specs.Rounds.{IsCycle, IsSettledTree}
 use Rattle.sp_search.specs.Tags.{IsPriced}
 use Rattle.sp_search.specs.Telling.{size, paid, KnowCosts, IsWhole}
+use Rattle.sp_search.specs.Wide.{IsWide}
 use Rattle.sp_search.proofs.Findings.{place_of}
 use Rattle.sp_search.proofs.Reaches.{marked_along, stand_behind}
 use Rattle.sp_search.proofs.Tallies.{size_least, size_above, size_below, paid_most}
@@ -58,12 +59,19 @@ size_cases cost arc (inr l) =
     let z = sum_least (λ a. size (at cost a)) (length cost) (λ a. size_least (at cost a)) in
     omega (arith, ints)
 
-pub priced_is : (net : Net) (cost : List ℤ) → IsValid net → length cost ≡ length net.arcs → sizes cost ≤ℤ pos 9223372036854775807 → IsPriced net cost
-priced_is net cost valid long fits = record {
-  valid = valid;
+pub priced_is : (net : Net) (cost : List ℤ) → IsWide net → length cost ≡ length net.arcs → sizes cost ≤ℤ pos 9223372036854775807 → IsPriced net cost
+priced_is net cost wide long fits = record {
+  wide = wide;
   long = long;
   low = λ arc. (let b = size_cases cost arc (cases_lt arc (length cost)) in let z = size_below (at cost arc) in omega (arith, ints));
   high = λ arc. (let b = size_cases cost arc (cases_lt arc (length cost)) in let z = size_above (at cost arc) in omega (arith, ints));
+}
+
+-- what is asked of a valid net is met where more is allowed
+pub wide_is : (net : Net) → IsValid net → IsWide net
+wide_is net valid = record {
+  ends = valid.ends;
+  limits = record { nodes = (let n = valid.limits.nodes in omega arith); arcs = (let m = valid.limits.arcs in omega arith) };
 }
 
 -- costs of at least 0 have no sign

@@ -8,3 +8,4 @@ pub mod Settling
 pub mod Tags
 pub mod Telling
 pub mod Waiting
+pub mod Wide

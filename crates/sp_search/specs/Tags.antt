@@ -1,11 +1,12 @@
 -- Private: the tags of nodes in a search by rounds, and what a round does to them.
 use Rattle.std.specs.Prelude.{◌≡◌, ◌⊎◌, ℕ, ◌<◌, ◌^◌, ℤ, pos, ◌+ℤ◌, ◌-ℤ◌, ◌*ℤ◌, ◌≤ℤ◌, ◌<ℤ◌, Bool, false, List, [], ◌∷◌, length, slice_set, slice_index_or, Option, Some, None}
 use Rattle.graph_defs.specs.declared.net.Net.{Net}
-use Rattle.graph_defs.specs.Net.{IsValid, source, target}
+use Rattle.graph_defs.specs.Net.{source, target}
 use Rattle.graph_defs.specs.Sum.{at}
 use Rattle.graph_defs.specs.Walk.{IsWalk}
 use Rattle.sp_search.specs.declared.tags.Tag.{Tag}
 use Rattle.sp_search.specs.Finding.{is_marked}
+use Rattle.sp_search.specs.Wide.{IsWide}
 
 -- the label of a node to which no walk is known
 abbrev pub far : ℤ
@@ -27,7 +28,7 @@ label_of tags v = (tag_at tags v).label
 
 -- what a search is asked: costs of 64 bits
 pub record IsPriced (net : Net) (cost : List ℤ) : Type 0 where
-  pub valid : IsValid net
+  pub wide : IsWide net
   pub long : length cost ≡ length net.arcs
   pub low : (arc : ℕ) → (pos 0 -ℤ pos (2 ^ 63)) ≤ℤ at cost arc
   pub high : (arc : ℕ) → at cost arc ≤ℤ pos (2 ^ 63)

@@ -1,12 +1,13 @@
 //! Shortest paths from one node, whatever the costs.
 ghost use Rattle.std.specs.Prelude.{◌≡◌, ◌<◌, ◌≤◌, ◌≤ℤ◌, pos, length, IfOk, IfErr};
-ghost use Rattle.graph_defs.specs.declared.net.TheConstants.{NODE_LIMIT};
-ghost use Rattle.graph_defs.specs.Net.{IsValid};
+ghost use Rattle.graph_defs.specs.Net.{EndsBelow, IsValid};
 ghost use Rattle.graph_defs.specs.Shortest.{IsSpAnswer, AreBelow};
+ghost use Rattle.sp_search.specs.declared.any_costs.TheConstants.{WIDE_NODE_LIMIT};
 ghost use Rattle.sp_search.specs.Lows.{StandBehind, CanReach, begin_of, IsLed};
 ghost use Rattle.sp_search.specs.Refusals.{sizes, MayRefuse};
 ghost use Rattle.sp_search.specs.Tags.{IsPriced};
 ghost use Rattle.sp_search.specs.Telling.{paid, KnowCosts, IsWhole};
+ghost use Rattle.sp_search.specs.Wide.{net_of, IsWide};
 
 use crate::finding::Finding;
 use crate::lows::Lows;
@@ -18,6 +19,12 @@ use crate::walks::{reach_of, walk_to};
 use graph_defs::{Net, Seed, SpAnswer};
 use leda_base::{NoMemory, Row};
 use std::alloc::Global;
+
+/// How many nodes a net may have for [`shortest_wide`].
+pub const WIDE_NODE_LIMIT: u32 = 100_002;
+
+/// How many arcs it may have there.
+pub const WIDE_ARC_LIMIT: u32 = 1_200_000;
 
 /// The distances of all nodes from `s`, each with the last arc of a shortest walk; the nodes with
 /// walks below every number, each with its reason; and the nodes to which no walk leads.
@@ -48,9 +55,37 @@ pub fn shortest(alloc: Global, net: &Net, s: u32, cost: &[i64]) -> Result<SpAnsw
     }
 }
 
-// The same, where no distance overflows.
+/// The same as [`shortest`], of a net of `n` nodes that may be larger than a valid one, and of
+/// costs with a sum of up to 2^63 - 1: the arcs along which a flow can change, both ways, are such
+/// a net.
+///
+/// # Errors
+/// `NoMemory` where the room isn't given.
+pub fn shortest_wide(
+    alloc: Global,
+    n: u32,
+    ends: &[(u32, u32)],
+    s: u32,
+    cost: &[i64],
+) -> Result<SpAnswer, NoMemory>
+    requires ends { EndsBelow n ends.now }
+    requires nodes { n ≤ WIDE_NODE_LIMIT }
+    requires arcs { length ends.now ≤ WIDE_ARC_LIMIT }
+    requires s { s < n }
+    requires costs { length cost.now ≡ length ends.now }
+    requires within { sizes cost.now ≤ℤ pos 9223372036854775807 }
+    ensures { IfOk result (λ answer. IsSpAnswer (net_of n ends.now) s cost.now answer) }
+{
+    let net = Net {
+        n,
+        arcs: Row::from_vec(ends.to_vec(alloc)?),
+    };
+    answer_of(alloc, &net, s, cost)
+}
+
+// The answer where no distance overflows.
 fn answer_of(alloc: Global, net: &Net, s: u32, cost: &[i64]) -> Result<SpAnswer, NoMemory>
-    requires valid { IsValid net.now }
+    requires wide { IsWide net.now }
     requires s { s < net.now.n }
     requires costs { length cost.now ≡ length net.now.arcs }
     requires fits { sizes cost.now ≤ℤ pos 9223372036854775807 }
@@ -79,7 +114,7 @@ fn led_to(
     reach: &Finding,
     cycle: Row<u32>,
 ) -> Result<Seed, NoMemory>
-    requires valid { IsValid net.now }
+    requires wide { IsWide net.now }
     requires some { 0 < length cycle }
     requires known { AreBelow (length net.now.arcs) cycle }
     requires reach { CanReach net.now s reach.now.queue.items reach.now.marks.items
@@ -101,7 +136,7 @@ fn whole_of(alloc: Global, cost: &[i64], tree: Finding, lows: Lows) -> Result<Sp
     requires known { KnowCosts (length cost.now) tree.queue.items }
     requires fits { paid cost.now tree.queue.items ≤ℤ pos 9223372036854775807 }
     requires long { length lows.found.marks.items ≡ length tree.marks.items }
-    requires few { length tree.marks.items ≤ NODE_LIMIT }
+    requires few { length tree.marks.items ≤ WIDE_NODE_LIMIT }
     ensures { IfOk result (λ answer. IsWhole cost.now tree.queue.items tree.marks.items
         lows.found.queue.items lows.found.marks.items lows.seeds answer) }
 {

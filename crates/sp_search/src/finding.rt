@@ -1,7 +1,7 @@
 //! The nodes to which arcs lead, found one after another.
 ghost use Rattle.std.specs.Prelude.{◌≡◌, ◌<◌, [], false, length, replicate, All, IfOk, OnOk, MatchBool};
-ghost use Rattle.graph_defs.specs.Net.{IsValid};
 ghost use Rattle.sp_search.specs.Finding.{IsAdded, IsKnown, IsOpenable, HasSpread, IsFinding, HasGrown, IsClosedAlong};
+ghost use Rattle.sp_search.specs.Wide.{IsWide};
 
 use graph_defs::{Grouped, Incidence, Net, Why};
 use leda_base::NoMemory;
@@ -54,7 +54,7 @@ impl Finding {
 
     /// Finds all nodes to which open arcs lead on from what was found.
     pub fn spread(&mut self, alloc: Global, net: &Net, opened: &[bool]) -> Result<(), NoMemory>
-        requires valid { IsValid net.now }
+        requires wide { IsWide net.now }
         requires opened { length opened.now ≡ length net.now.arcs }
         requires finding { IsFinding net.now opened.now self.old.queue.items self.old.marks.items }
         ensures finding { OnOk result

@@ -1,10 +1,10 @@
 //! Last arcs: the tree that they make, or a closed walk of them.
 ghost use Rattle.std.specs.Prelude.{◌≡◌, ◌<◌, ◌≤◌, [], ◌∷◌, false, true, length, replicate, slice_set, Some, IsSome, IfOk, MatchBool, MatchOption};
-ghost use Rattle.graph_defs.specs.declared.net.TheConstants.{NODE_LIMIT};
 ghost use Rattle.graph_defs.specs.declared.shortest.Why.TheVariants.{Seed};
-ghost use Rattle.graph_defs.specs.Net.{IsValid};
 ghost use Rattle.graph_defs.specs.Shortest.{AreBelow};
+ghost use Rattle.sp_search.specs.declared.any_costs.TheConstants.{WIDE_NODE_LIMIT};
 ghost use Rattle.sp_search.specs.Forest.{last_at, last_by, IsRoot, AreLastArcs, IsTreeOf, IsStray, AreMarked, CanClimb, StandsIn, IsTurned, IsLoop};
+ghost use Rattle.sp_search.specs.Wide.{IsWide};
 
 use crate::finding::{Finding, Found};
 use crate::tags::{FAR, Tag, source_of, target_of};
@@ -14,7 +14,7 @@ use std::alloc::Global;
 
 /// The nodes to which last arcs lead from the source, each behind the one that its arc leads from.
 pub fn tree_of(alloc: Global, net: &Net, s: u32, tags: &[Tag]) -> Result<Finding, NoMemory>
-    requires valid { IsValid net.now }
+    requires wide { IsWide net.now }
     requires s { s < net.now.n }
     requires tags { length tags.now ≡ net.now.n }
     ensures { IfOk result (λ finding.
@@ -63,7 +63,7 @@ pub fn first_found(alloc: Global, n: u32, s: u32, is_there: bool) -> Result<Find
 
 // Whether each arc is the last arc of its target.
 fn last_arcs(alloc: Global, net: &Net, tags: &[Tag]) -> Result<Vec<bool>, NoMemory>
-    requires valid { IsValid net.now }
+    requires wide { IsWide net.now }
     requires tags { length tags.now ≡ net.now.n }
     ensures { IfOk result (λ opened.
         AreLastArcs net.now tags.now (length net.now.arcs) opened.items) }
@@ -76,7 +76,7 @@ fn last_arcs(alloc: Global, net: &Net, tags: &[Tag]) -> Result<Vec<bool>, NoMemo
 }
 
 fn is_last(net: &Net, tags: &[Tag], arc: u32) -> bool
-    requires valid { IsValid net.now }
+    requires wide { IsWide net.now }
     requires arc { arc < length net.now.arcs }
     requires tags { length tags.now ≡ net.now.n }
     ensures { MatchBool result (last_at net.now tags.now arc ≡ Some arc)
@@ -91,7 +91,7 @@ fn is_last(net: &Net, tags: &[Tag], arc: u32) -> bool
 /// A node that is tagged and isn't marked.
 pub fn stray(tags: &[Tag], marks: &[bool]) -> Option<u32>
     requires long { length marks.now ≡ length tags.now }
-    requires few { length tags.now ≤ NODE_LIMIT }
+    requires few { length tags.now ≤ WIDE_NODE_LIMIT }
     ensures { MatchOption result (AreMarked tags.now marks.now (length tags.now))
         (λ v. IsStray tags.now marks.now v) }
 {
@@ -120,7 +120,7 @@ pub fn climb(
     marks: &[bool],
     from: u32,
 ) -> Result<Row<u32>, NoMemory>
-    requires valid { IsValid net.now }
+    requires wide { IsWide net.now }
     requires tags { length tags.now ≡ net.now.n }
     requires marks { length marks.now ≡ net.now.n }
     requires climbs { CanClimb net.now tags.now marks.now }
@@ -152,7 +152,7 @@ fn last_of(tags: &[Tag], node: u32) -> u32
 
 // The arcs of a trail from where one ends at the node, turned round.
 fn loop_of(alloc: Global, net: &Net, trail: &[u32], here: u32) -> Result<Row<u32>, NoMemory>
-    requires valid { IsValid net.now }
+    requires wide { IsWide net.now }
     requires known { AreBelow (length net.now.arcs) trail.now }
     requires there { StandsIn net.now trail.now here }
     ensures { IfOk result (λ cycle. IsTurned net.now trail.now here cycle) }

@@ -17,7 +17,7 @@ mod tags;
 mod telling;
 mod walks;
 
-pub use any_costs::shortest;
+pub use any_costs::{WIDE_ARC_LIMIT, WIDE_NODE_LIMIT, shortest, shortest_wide};
 pub use distances::dijkstra;
 pub use refusals::{SpRefusal, is_within_bound};
 

@@ -1,9 +1,9 @@
 //! The nodes with walks below every number, and the closed walks that show it.
 ghost use Rattle.std.specs.Prelude.{◌≡◌, ℕ, ◌<◌, ◌^◌, Bool, List, [], false, length, replicate, IfOk, OnOk};
-ghost use Rattle.graph_defs.specs.Net.{IsValid};
 ghost use Rattle.graph_defs.specs.Shortest.{AreBelow};
 ghost use Rattle.sp_search.specs.Finding.{IsFinding};
 ghost use Rattle.sp_search.specs.Lows.{HasMet, HasMore};
+ghost use Rattle.sp_search.specs.Wide.{IsWide};
 
 use crate::finding::{Finding, Found};
 use crate::tags::source_of;
@@ -39,7 +39,7 @@ impl Lows {
         opened: &[bool],
         seed: Seed,
     ) -> Result<(), NoMemory>
-        requires valid { IsValid net.now }
+        requires wide { IsWide net.now }
         requires opened { length opened.now ≡ length net.now.arcs }
         requires few { length self.old.seeds < 2 ^ 32 }
         requires cycle { AreBelow (length net.now.arcs) seed.cycle }
@@ -59,7 +59,7 @@ impl Lows {
 
 // Finds the nodes of a seed's closed walk.
 fn meet(found: &mut Finding, net: &Net, cycle: &[u32], number: u32) -> Result<(), NoMemory>
-    requires valid { IsValid net.now }
+    requires wide { IsWide net.now }
     requires cycle { AreBelow (length net.now.arcs) cycle.now }
     requires marks { length found.old.marks.items ≡ net.now.n }
     ensures { (opened : List Bool)

@@ -23,11 +23,19 @@ pub fn is_within_bound(cost: &[i64]) -> bool
     ensures { MatchBool result (sizes cost.now ≤ℤ pos 4611686018427387903)
         (pos 4611686018427387903 <ℤ sizes cost.now) }
 {
+    let sum = sizes_of(cost);
+    sum <= BOUND
+}
+
+// The sum of the costs without their signs.
+pub fn sizes_of(cost: &[i64]) -> i128
+    ensures { result ≡ sizes cost.now }
+{
     let mut sum: i128 = 0;
     for one in cost {
         sum += size_of(*one);
     }
-    sum <= BOUND
+    sum
 }
 
 // A cost without its sign.

@@ -1,7 +1,8 @@
 //! Tags of nodes, which fall along arcs.
 ghost use Rattle.std.specs.Prelude.{◌≡◌, ℕ, ◌<◌, ◌*◌, ◌^◌, ◌+ℤ◌, ◌<ℤ◌, length, IfOk, MatchBool};
-ghost use Rattle.graph_defs.specs.Net.{IsValid, source, target};
+ghost use Rattle.graph_defs.specs.Net.{source, target};
 ghost use Rattle.sp_search.specs.Tags.{far, stretch, length_of, label_of, IsPriced, IsTagged, AreAbove, HasFallen, HasStayed, IsLess, AreSettled};
+ghost use Rattle.sp_search.specs.Wide.{IsWide};
 
 use graph_defs::Net;
 use leda_base::NoMemory;
@@ -20,7 +21,7 @@ pub struct Tag {
 
 /// The node where an arc begins.
 pub fn source_of(net: &Net, arc: u32) -> u32
-    requires valid { IsValid net.now }
+    requires wide { IsWide net.now }
     requires arc { arc < length net.now.arcs }
     ensures is { result ≡ source net.now arc }
     ensures node { result < net.now.n }
@@ -30,7 +31,7 @@ pub fn source_of(net: &Net, arc: u32) -> u32
 
 /// The node where it ends.
 pub fn target_of(net: &Net, arc: u32) -> u32
-    requires valid { IsValid net.now }
+    requires wide { IsWide net.now }
     requires arc { arc < length net.now.arcs }
     ensures is { result ≡ target net.now arc }
     ensures node { result < net.now.n }

@@ -1,7 +1,7 @@
 //! The answer that a settled tree and low nodes make.
 ghost use Rattle.std.specs.Prelude.{◌≡◌, ◌<◌, ◌≤◌, ◌^◌, ◌≤ℤ◌, pos, map, length, IfOk};
 ghost use Rattle.std.specs.List.{filter, range_with_len};
-ghost use Rattle.graph_defs.specs.declared.net.TheConstants.{NODE_LIMIT};
+ghost use Rattle.sp_search.specs.declared.any_costs.TheConstants.{WIDE_NODE_LIMIT};
 ghost use Rattle.sp_search.specs.Lows.{StandBehind};
 ghost use Rattle.sp_search.specs.Telling.{KnowCosts, paid, IsTold, FitsNext, AreTold, neither, low_of};
 
@@ -60,7 +60,7 @@ pub fn lows_of(alloc: Global, queue: &[Found]) -> Result<Row<Low>, NoMemory>
 /// The nodes with neither mark, in the order of the nodes.
 pub fn unmarked(alloc: Global, some: &[bool], others: &[bool]) -> Result<Row<u32>, NoMemory>
     requires long { length others.now ≡ length some.now }
-    requires few { length some.now ≤ NODE_LIMIT }
+    requires few { length some.now ≤ WIDE_NODE_LIMIT }
     ensures { IfOk result (λ nodes.
         nodes ≡ filter (neither some.now others.now) (range_with_len 0 (length some.now))) }
 {

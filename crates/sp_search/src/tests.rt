@@ -1,6 +1,9 @@
 //! Distances of small nets.
+ghost use Rattle.std.specs.Prelude.{◌↔◌, IsTrue};
+ghost use Rattle.graph_defs.specs.Net.{EndsBelow};
 
 use super::*;
+use crate::refusals::sizes_of;
 use graph_defs::{Finite, Low, Net, SpAnswer, Why};
 use leda_base::{NoMemory, Row};
 use std::alloc::Global;
@@ -60,13 +63,40 @@ fn search_any(
     Ok(shortest(alloc, &net, s, costs))
 }
 
+fn search_wide(
+    rt: &impl Abort,
+    alloc: Global,
+    n: u32,
+    s: u32,
+    arcs: &[(u32, u32)],
+    costs: &[i64],
+) -> Result<SpAnswer, NoMemory> {
+    assert!(rt; n <= WIDE_NODE_LIMIT && arcs.len() <= WIDE_ARC_LIMIT as usize);
+    assert!(rt; have_ends_below(n, arcs));
+    assert!(rt; s < n);
+    assert!(rt; costs.len() == arcs.len());
+    assert!(rt; sizes_of(costs) <= i128::from(i64::MAX));
+    shortest_wide(alloc, n, arcs, s, costs)
+}
+
+fn have_ends_below(n: u32, arcs: &[(u32, u32)]) -> bool
+    ensures { IsTrue result ↔ EndsBelow n arcs.now }
+{
+    arcs.iter().all(|(from, to)| *from < n && *to < n)
+}
+
 // The distance of the node that is told last; 0 where there is no answer.
 fn farthest(told: Result<SpAnswer, SpRefusal>) -> i64 {
+    match told {
+        Ok(answer) => last_dist(&answer),
+        Err(_) => 0,
+    }
+}
+
+fn last_dist(answer: &SpAnswer) -> i64 {
     let mut dist = 0;
-    if let Ok(answer) = told {
-        for finite in answer.finite.as_slice() {
-            dist = finite.dist;
-        }
+    for finite in answer.finite.as_slice() {
+        dist = finite.dist;
     }
     dist
 }
@@ -279,5 +309,56 @@ fn a_low_source_leaves_no_finite_node(rt: HostRuntime) -> Result<(), Fail> {
     ];
     assert_eq!(rt; answer.low.as_slice(), low.as_slice());
     assert_eq!(rt; answer.unreached.as_slice(), [2].as_slice());
+    Ok(())
+}
+
+// A wide search answers as the other does, also with costs below 0 and closed walks of them.
+#[test]
+fn a_wide_search_answers_as_the_other(rt: HostRuntime) -> Result<(), Fail> {
+    let mut seed = 7u32;
+    for round in 0..60u32 {
+        let n = 2 + round % 7;
+        let mut arcs = Vec::new(rt.alloc());
+        let mut costs = Vec::new(rt.alloc());
+        for _ in 0..(round % 23) {
+            seed = (seed % 65537 * 75 + 74) % 65537;
+            arcs.push((seed % n, seed / 8 % n))?;
+            costs.push(i64::from(seed / 64 % 10) - 2)?;
+        }
+        let s = seed % n;
+        let answer = search_wide(&rt, rt.alloc(), n, s, arcs.as_slice(), costs.as_slice())?;
+        let other = search_any(&rt, rt.alloc(), n, s, arcs.as_slice(), costs.as_slice())?
+            .ok()
+            .expect(&rt, "an answer");
+        let finite = told(rt.alloc(), answer.finite.as_slice())?;
+        let others = told(rt.alloc(), other.finite.as_slice())?;
+        assert_eq!(rt; finite.as_slice(), others.as_slice(), "round {round}");
+        assert_eq!(rt;
+            answer.low.as_slice(),
+            other.low.as_slice(),
+            "round {round}"
+        );
+        assert_eq!(rt;
+            answer.unreached.as_slice(),
+            other.unreached.as_slice(),
+            "round {round}"
+        );
+    }
+    Ok(())
+}
+
+// The most nodes, and the greatest and the least distance.
+#[test]
+fn a_wide_search_has_wide_limits(rt: HostRuntime) -> Result<(), Fail> {
+    let alloc = rt.alloc();
+    let arcs = [(1, 100_001), (0, 1)];
+    let most = [4_611_686_018_427_387_903, 4_611_686_018_427_387_904];
+    let answer = search_wide(&rt, alloc, 100_002, 0, arcs.as_slice(), most.as_slice())?;
+    assert_eq!(rt; answer.finite.as_slice().len(), 3);
+    assert_eq!(rt; answer.unreached.as_slice().len(), 99_999);
+    assert_eq!(rt; last_dist(&answer), i64::MAX);
+    let least = [-4_611_686_018_427_387_903, -4_611_686_018_427_387_904];
+    let answer = search_wide(&rt, alloc, 100_002, 0, arcs.as_slice(), least.as_slice())?;
+    assert_eq!(rt; last_dist(&answer), -i64::MAX);
     Ok(())
 }

@@ -2,10 +2,10 @@
 ghost use Rattle.std.specs.Prelude.{◌≡◌, ℕ, ◌<◌, Bool, List, length, IfOk, MatchOption};
 ghost use Rattle.graph_defs.specs.declared.net.Net.{Net};
 ghost use Rattle.graph_defs.specs.declared.shortest.Why.TheVariants.{Arc};
-ghost use Rattle.graph_defs.specs.Net.{IsValid};
 ghost use Rattle.graph_defs.specs.Walk.{IsWalk};
 ghost use Rattle.sp_search.specs.Finding.{found_at, IsFinding};
 ghost use Rattle.sp_search.specs.Lows.{StandBehind, IsThere, IsPlaceOf, BeginsAt, IsBeginning, IsReachOf};
+ghost use Rattle.sp_search.specs.Wide.{IsWide};
 
 use crate::finding::{Finding, Found};
 use crate::forest::first_found;
@@ -15,7 +15,7 @@ use std::alloc::Global;
 
 /// All nodes to which open arcs lead from `s`.
 pub fn reach_of(alloc: Global, net: &Net, s: u32, opened: &[bool]) -> Result<Finding, NoMemory>
-    requires valid { IsValid net.now }
+    requires wide { IsWide net.now }
     requires s { s < net.now.n }
     requires opened { length opened.now ≡ length net.now.arcs }
     ensures { IfOk result (λ finding.

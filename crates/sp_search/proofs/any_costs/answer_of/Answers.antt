@@ -13,7 +13,7 @@ use Rattle.sp_search.proofs.Wholes.{all_open, priced_is, cycle_known, cycle_reac
 use Rattle.sp_search.proofs.any_costs.answer_of.Goals as goal
 
 pub settle-requires-clause-priced : goal.settle-requires-clause-priced
-settle-requires-clause-priced c = priced_is c.args.net.now c.args.cost.now c.requires.valid c.requires.costs c.requires.fits
+settle-requires-clause-priced c = priced_is c.args.net.now c.args.cost.now c.requires.wide c.requires.costs c.requires.fits
 
 pub loop-lows-init : goal.loop-lows-init
 loop-lows-init c =
@@ -43,7 +43,7 @@ returns-in-Tree c =
     let e : c.in_ok-opened.opened.items ≡ replicate (length c.as_slice.result.now) true = search rules in
     let all = all_open c.in_ok-opened.opened.items (length net.arcs) (e ∙ ap (λ (k : ℕ). replicate k true) m) in
     IfOk-weaker c.whole_of.result (λ a. IsWhole cost c.in-Tree.tree.queue.items c.in-Tree.tree.marks.items lq lm c.loop-lows.lows.seeds a) (λ a. IsSpAnswer net s cost a)
-    (λ a w. whole_right net s cost (priced_is net cost c.requires.valid c.requires.costs c.requires.fits) c.requires.s c.in_ok-opened.opened.items all lq lm c.loop-lows.lows.seeds c.loop-lows.invariant
+    (λ a w. whole_right net s cost (priced_is net cost c.requires.wide c.requires.costs c.requires.fits) c.requires.s c.in_ok-opened.opened.items all lq lm c.loop-lows.lows.seeds c.loop-lows.invariant
     c.in-Tree.tree.queue.items c.in-Tree.tree.marks.items t.0 t.1 a w)
     c.whole_of.ensures
 

@@ -14,7 +14,7 @@ climb-requires-clause-climbs c =
     let Q : List Tag → Type 0 = λ xs. CanClimb net xs c.as_slice-in-Some-2.result.now in
     let R : List Bool → Type 0 = λ xs. CanClimb net tags xs in
     subst Q (sym c.as_slice-in-Some.ensures.value) (subst R (sym c.as_slice-in-Some-2.ensures.value)
-    (can_climb net c.args.s c.args.cost.now c.args.shut.now tags c.loop-tags.invariant c.requires.priced.valid c.in_ok-tree.tree.queue.items c.in_ok-tree.tree.marks.items tree))
+    (can_climb net c.args.s c.args.cost.now c.args.shut.now tags c.loop-tags.invariant c.requires.priced.wide c.in_ok-tree.tree.queue.items c.in_ok-tree.tree.marks.items tree))
 
 pub returns-in-Some : goal.returns-in-Some
 returns-in-Some c =
@@ -32,7 +32,7 @@ round-requires-clause-above c =
     let Q : List Tag → Type 0 = λ xs. AreMarked xs c.as_slice-in-loop-tags-2.result.now (length xs) in
     let R : List Bool → Type 0 = λ xs. AreMarked tags xs (length tags) in
     let none = subst R c.as_slice-in-loop-tags-2.ensures.value (subst Q c.as_slice-in-loop-tags.ensures.value c.in_default.ensures) in
-    tree_above net c.args.s c.args.cost.now c.args.shut.now tags c.loop-tags.invariant c.requires.priced.valid c.in_ok-tree.tree.queue.items marks tree c.requires.priced none
+    tree_above net c.args.s c.args.cost.now c.args.shut.now tags c.loop-tags.invariant c.requires.priced.wide c.in_ok-tree.tree.queue.items marks tree c.requires.priced none
 
 pub loop-tags-smaller : goal.loop-tags-smaller
 loop-tags-smaller c =
@@ -44,7 +44,7 @@ loop-tags-smaller c =
     let Q : List Tag → Type 0 = λ xs. AreMarked xs c.as_slice-in-loop-tags-2.result.now (length xs) in
     let R : List Bool → Type 0 = λ xs. AreMarked tags xs (length tags) in
     let none = subst R c.as_slice-in-loop-tags-2.ensures.value (subst Q c.as_slice-in-loop-tags.ensures.value c.in_default.ensures) in
-    let above = tree_above net c.args.s c.args.cost.now c.args.shut.now tags c.loop-tags.invariant c.requires.priced.valid c.in_ok-tree.tree.queue.items marks tree c.requires.priced none in
+    let above = tree_above net c.args.s c.args.cost.now c.args.shut.now tags c.loop-tags.invariant c.requires.priced.wide c.in_ok-tree.tree.queue.items marks tree c.requires.priced none in
     left_falls tags c.round.new.tags.items ((c.round.ensures.tagged c.args.s c.loop-tags.invariant).long ∙ sym c.loop-tags.invariant.long) above c.if-not-round.ensures.falls
 
 pub returns-then-not-round : goal.returns-then-not-round

@@ -26,7 +26,7 @@ spread_row-requires c =
     let q : f ≡ found_at queue c.loop-head.head = get_or_read queue c.loop-head.head f hh c.index.ensures (record { node = 0; why = Seed 0; before = 0 }) in
     let row = row_of_net net c.as_slice.result.now c.in_ok-rows.rows c.row-row.result.now f.node (found_at queue c.loop-head.head).node c.as_slice.ensures c.in_ok-rows.ensures.rows c.row-row.ensures
     (ap (λ (x : Found). x.node) q) in
-    record { row = row_openable net c.args.opened.now queue c.loop-head.self.marks.items c.row-row.result.now c.loop-head.head c.requires.valid c.loop-head.invariant.is hh row c.requires.opened }
+    record { row = row_openable net c.args.opened.now queue c.loop-head.self.marks.items c.row-row.result.now c.loop-head.head c.requires.wide c.loop-head.invariant.is hh row c.requires.opened }
 
 pub loop-head-preserved : goal.loop-head-preserved
 loop-head-preserved c =
@@ -37,10 +37,10 @@ loop-head-preserved c =
     let q : f ≡ found_at queue c.loop-head.head = get_or_read queue c.loop-head.head f hh c.index.ensures (record { node = 0; why = Seed 0; before = 0 }) in
     let row = row_of_net net c.as_slice.result.now c.in_ok-rows.rows c.row-row.result.now f.node (found_at queue c.loop-head.head).node c.as_slice.ensures c.in_ok-rows.ensures.rows c.row-row.ensures
     (ap (λ (x : Found). x.node) q) in
-    way_more net c.args.opened.now c.args.self.now.queue.items c.args.self.now.marks.items c.loop-head.head queue c.loop-head.self.marks.items c.requires.valid c.loop-head.invariant
+    way_more net c.args.opened.now c.args.self.now.queue.items c.args.self.now.marks.items c.loop-head.head queue c.loop-head.self.marks.items c.requires.wide c.loop-head.invariant
     c.row-row.result.now hh row c.spread_row.new.self.queue.items c.spread_row.new.self.marks.items c.in_ok-spread_row.ensures
 
 pub returns-clause-closed : goal.returns-clause-closed
 returns-clause-closed c =
     let h : length c.loop-head.self.queue.items ≤ c.loop-head.head = search rules in
-    way_closed c.args.net.now c.args.opened.now c.args.self.now.queue.items c.args.self.now.marks.items c.loop-head.head c.loop-head.self.queue.items c.loop-head.self.marks.items c.requires.valid c.loop-head.invariant h
+    way_closed c.args.net.now c.args.opened.now c.args.self.now.queue.items c.args.self.now.marks.items c.loop-head.head c.loop-head.self.queue.items c.loop-head.self.marks.items c.requires.wide c.loop-head.invariant h

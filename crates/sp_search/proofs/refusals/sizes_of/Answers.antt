@@ -6,7 +6,7 @@ use Rattle.graph_defs.specs.Sum.{at, sum_below}
 use Rattle.graph_defs.proofs.Sums.{sum_more}
 use Rattle.sp_search.specs.Telling.{size}
 use Rattle.sp_search.proofs.Tallies.{size_least, size_fits}
-use Rattle.sp_search.proofs.refusals.is_within_bound.Goals as goal
+use Rattle.sp_search.proofs.refusals.sizes_of.Goals as goal
 
 pub loop-one-preserved : goal.loop-one-preserved
 loop-one-preserved c =
