@@ -18,6 +18,10 @@ pub record IsFirstNegative (cap : List ℤ) (arc : ℕ) : Type 0 where
 abbrev pub AreLow : List ℤ → Type 0
 AreLow cap = All (λ c. pos 0 ≤ℤ c) cap
 
+-- nothing is against a maximum flow
+abbrev pub Allows : ℕ → ℕ → List ℤ → Type 0
+Allows s t cap = (s ≢ t) × AreLow cap × (sum_of cap ≤ℤ pos 4611686018427387903)
+
 -- why there is none, in the order in which it is asked
 abbrev pub Refuses : ℕ → ℕ → List ℤ → FlowRefusal → Type 0
 Refuses s t cap Same = s ≡ t

@@ -13,7 +13,7 @@ mod maximum;
 mod refusals;
 
 pub use maximum::max_flow;
-pub use refusals::FlowRefusal;
+pub use refusals::{FlowRefusal, cause_against};
 
 #[cfg(test)]
 mod tests;

@@ -7,7 +7,7 @@ ghost use Rattle.flow_net.specs.Refusals.{sum_of, AreLow, Refuses};
 use crate::augmenting::augment;
 use crate::breadth_first::{Search, place_of, visited_nodes};
 use crate::darts::darts_of;
-use crate::refusals::{FlowRefusal, first_negative, is_within_bound};
+use crate::refusals::{FlowRefusal, cause_against};
 use graph_defs::{FlowAnswer, Grouped, Net};
 use leda_base::{NoMemory, Row};
 use std::alloc::Global;
@@ -40,14 +40,8 @@ pub fn max_flow(
     ensures within { IfOk result (λ _. sum_of cap.now ≤ℤ pos 4611686018427387903) }
     ensures refusal { IfErr result (λ refusal. Refuses s t cap.now refusal) }
 {
-    if s == t {
-        return Err(FlowRefusal::Same);
-    }
-    if let Some(arc) = first_negative(cap) {
-        return Err(FlowRefusal::Negative(arc));
-    }
-    if !is_within_bound(cap) {
-        return Err(FlowRefusal::Bound);
+    if let Some(refusal) = cause_against(s, t, cap) {
+        return Err(refusal);
     }
     match greatest(alloc, net, s, t, cap) {
         Ok(answer) => Ok(answer),

@@ -1,7 +1,8 @@
 //! Why there is no answer on maximum flows.
-ghost use Rattle.std.specs.Prelude.{◌≤◌, ◌<ℤ◌, ◌≤ℤ◌, pos, length, All, MatchBool, MatchOption};
+ghost use Rattle.std.specs.Prelude.{◌≤◌, ◌≢◌, ◌<ℤ◌, ◌≤ℤ◌, pos, length, All, IfNone, IfSome, MatchBool, MatchOption};
 ghost use Rattle.graph_defs.specs.declared.net.TheConstants.{ARC_LIMIT};
-ghost use Rattle.flow_net.specs.Refusals.{sum_of, AreLow, IsFirstNegative};
+ghost use Rattle.flow_net.specs.declared.refusals.FlowRefusal.TheVariants.{NoMemory};
+ghost use Rattle.flow_net.specs.Refusals.{sum_of, AreLow, IsFirstNegative, Allows, Refuses};
 
 /// Why there is no answer, in the order in which it is asked.
 #[derive(Clone, Copy, Debug, PartialEq, Eq)]
@@ -14,6 +15,27 @@ pub enum FlowRefusal {
     Bound,
     /// The room isn't given.
     NoMemory,
+}
+
+/// What there is against a maximum flow from `s` to `t`, for every search for one: never want of
+/// memory.
+pub fn cause_against(s: u32, t: u32, cap: &[i64]) -> Option<FlowRefusal>
+    requires { length cap.now ≤ ARC_LIMIT }
+    ensures none { IfNone result (Allows s t cap.now) }
+    ensures some { IfSome result (Refuses s t cap.now) }
+    ensures known { IfSome result (λ refusal. refusal ≢ NoMemory) }
+{
+    if s == t {
+        return Some(FlowRefusal::Same);
+    }
+    if let Some(arc) = first_negative(cap) {
+        return Some(FlowRefusal::Negative(arc));
+    }
+    if is_within_bound(cap) {
+        None
+    } else {
+        Some(FlowRefusal::Bound)
+    }
 }
 
 // The greatest sum that the capacities may have.
