@@ -1,7 +1,7 @@
 //! What commands on objects are answered, on small scripts.
 
 use crate::Status;
-use crate::tests::run_of;
+use crate::tests::{answers, run_of};
 use std::test::Fail;
 
 #[test]
@@ -29,12 +29,7 @@ fn answers_commands_on_objects(rt: HostRuntime) -> Result<(), Fail> {
             "! syntax 5\n! number 8\n! syntax 34\n! syntax 10\n",
         ),
     ];
-    for (script, replies) in rows {
-        let (ended, sink) = run_of(&rt, script, 4096)?;
-        assert_eq!(rt; ended, Status::Done, "after {script:?}");
-        assert_eq!(rt; sink.bytes(), replies.as_bytes(), "after {script:?}");
-    }
-    Ok(())
+    answers(&rt, &rt, &rows)
 }
 
 #[test]
@@ -80,12 +75,7 @@ fn answers_commands_on_arrays_and_maps(rt: HostRuntime) -> Result<(), Fail> {
              = -9223372036854775808\n= 2\n",
         ),
     ];
-    for (script, replies) in rows {
-        let (ended, sink) = run_of(&rt, script, 4096)?;
-        assert_eq!(rt; ended, Status::Done, "after {script:?}");
-        assert_eq!(rt; sink.bytes(), replies.as_bytes(), "after {script:?}");
-    }
-    Ok(())
+    answers(&rt, &rt, &rows)
 }
 
 #[test]

@@ -1,7 +1,6 @@
 //! What queries are answered, on small scripts.
 
-use crate::Status;
-use crate::tests::run_of;
+use crate::tests::answers;
 use std::test::Fail;
 
 // Of several answers that are right, these are the ones that the searches find.
@@ -53,12 +52,7 @@ fn answers_queries_for_matchings(rt: HostRuntime) -> Result<(), Fail> {
              + cover n1:0 n2:1 n3:0\n",
         ),
     ];
-    for (script, replies) in rows {
-        let (ended, sink) = run_of(&rt, script, 4096)?;
-        assert_eq!(rt; ended, Status::Done, "after {script:?}");
-        assert_eq!(rt; sink.bytes(), replies.as_bytes(), "after {script:?}");
-    }
-    Ok(())
+    answers(&rt, &rt, &rows)
 }
 
 // A kept answer is checked of the graph as it is then.
@@ -91,12 +85,7 @@ fn checks_the_last_matching(rt: HostRuntime) -> Result<(), Fail> {
              = no gone e1\n=\n= no gone e1\n= matching 0\n+ match\n+ cover\n= yes\n",
         ),
     ];
-    for (script, replies) in rows {
-        let (ended, sink) = run_of(&rt, script, 4096)?;
-        assert_eq!(rt; ended, Status::Done, "after {script:?}");
-        assert_eq!(rt; sink.bytes(), replies.as_bytes(), "after {script:?}");
-    }
-    Ok(())
+    answers(&rt, &rt, &rows)
 }
 
 // A negative cycle that is reached, one of weight 0, an isolated node, sums at the bound.
@@ -139,12 +128,7 @@ fn answers_queries_for_shortest_paths(rt: HostRuntime) -> Result<(), Fail> {
              ! undirected\n! object x\n=\n= sp 1 0 1\n+ finite n2 0 -\n+ inf n1\n",
         ),
     ];
-    for (script, replies) in rows {
-        let (ended, sink) = run_of(&rt, script, 4096)?;
-        assert_eq!(rt; ended, Status::Done, "after {script:?}");
-        assert_eq!(rt; sink.bytes(), replies.as_bytes(), "after {script:?}");
-    }
-    Ok(())
+    answers(&rt, &rt, &rows)
 }
 
 // Costs and the graph change, and objects go, between an answer and its check.
@@ -177,10 +161,58 @@ fn checks_the_last_shortest_paths(rt: HostRuntime) -> Result<(), Fail> {
              = sp 0 1 0\n+ seed n1 : : e1\n+ -inf n1 seed 1\n= yes\n",
         ),
     ];
-    for (script, replies) in rows {
-        let (ended, sink) = run_of(&rt, script, 4096)?;
-        assert_eq!(rt; ended, Status::Done, "after {script:?}");
-        assert_eq!(rt; sink.bytes(), replies.as_bytes(), "after {script:?}");
-    }
-    Ok(())
+    answers(&rt, &rt, &rows)
+}
+
+// Flows and cuts that are the only ones, so that no search finds others.
+#[test]
+fn answers_queries_for_flows(rt: HostRuntime) -> Result<(), Fail> {
+    let rows = [
+        // Arcs into the source and out of the sink, parallel ones, one without room.
+        (
+            "node\nnode\nnode\nedge n1 n2 |{2}|\nedge n2 n3 |{3}|\nedge n2 n1 |{5}|\n\
+             edge n3 n2 |{4}|\nedge n1 n3 |{0}|\nedge n2 n2 |{5}|\nedge_array c labels\n\
+             maxflow n1 n3 c\nmaxflow n3 n1 c\ncheck maxflow\n",
+            "= n1\n= n2\n= n3\n= e1\n= e2\n= e3\n= e4\n= e5\n= e6\n=\n= maxflow 2\n\
+             + flow e1:2 e2:2\n+ cut n1\n= maxflow 4\n+ flow e3:4 e4:4\n+ cut n3\n\
+             = yes\n",
+        ),
+        // Refusals in their order.
+        (
+            "make_undirected\nnode\nnode\nedge n1 n2 |{-1}|\nmaxflow n1 n1 c\n\
+             edge_array c labels\nmaxflow n1 n1 c\nmake_directed\nedge n2 n1\n\
+             maxflow n1 n1 c\nhide_edge e2\nmaxflow n1 n1 c\nmaxflow n1 n2 c\n\
+             maxflow n1 n3 c\nmaxflow n1 c\ncheck maxflow\n",
+            "=\n= n1\n= n2\n= e1\n! object c\n=\n! undirected\n=\n= e2\n! covered e2\n=\n\
+             ! same\n! negative e1\n! unknown n3\n! syntax 12\n! object maxflow\n",
+        ),
+        // Sums of just the bound and of one more.
+        (
+            "node\nnode\nedge n1 n2 |{4611686018427387902}|\nedge n1 n2 |{1}|\n\
+             edge_array c labels\nmaxflow n1 n2 c\nset c e2 2\nmaxflow n1 n2 c\n\
+             check maxflow\n",
+            "= n1\n= n2\n= e1\n= e2\n=\n= maxflow 4611686018427387903\n\
+             + flow e1:4611686018427387902 e2:1\n+ cut n1\n=\n! bound\n= no value\n",
+        ),
+    ];
+    answers(&rt, &rt, &rows)
+}
+
+// The capacities that count are those of the object of the name as it is then.
+#[test]
+fn checks_the_last_flow(rt: HostRuntime) -> Result<(), Fail> {
+    let rows = [(
+        "node\nnode\nnode\nedge n1 n2 |{3}|\nedge n2 n3 |{2}|\nedge_array c labels\n\
+         maxflow n1 n3 c\ncheck maxflow\nset c e2 1\ncheck maxflow\nset c e2 3\n\
+         check maxflow\nset c e2 2\nnode\ncheck maxflow\nmove_edge e2 n1 n3\n\
+         check maxflow\nmove_edge e2 n2 n3\nedge n1 n3\ncheck maxflow\nhide_edge e3\n\
+         check maxflow\nhide_edge e1\ncheck maxflow\nhide_node n3\ncheck maxflow\n\
+         hide_node n1\ncheck maxflow\nrestore_all\nmake_undirected\ncheck maxflow\n\
+         drop c\ncheck maxflow\nedge_map c 7\nmake_directed\ncheck maxflow\n",
+        "= n1\n= n2\n= n3\n= e1\n= e2\n=\n= maxflow 2\n+ flow e1:2 e2:2\n+ cut n1 n2\n\
+         = yes\n=\n= no bounds e2\n=\n= no value\n=\n= n4\n= yes\n=\n= no balance n2\n=\n\
+         = e3\n! covered e3\n=\n= yes\n=\n= no gone e1\n=\n= no gone n3\n=\n= no gone n1\n\
+         =\n=\n! undirected\n=\n! object c\n=\n=\n= no value\n",
+    )];
+    answers(&rt, &rt, &rows)
 }

@@ -3,6 +3,7 @@ ghost use Rattle.std.specs.Prelude.{◌<◌, None, length};
 
 use crate::{Status, run};
 use leda_edge::{Failed, FileStore, MemSink, MemSource, Source, SureSink, SureSource};
+use std::process::Abort;
 use std::test::Fail;
 
 /// Runs a script whose reads give at most `piece` bytes.
@@ -19,6 +20,20 @@ pub(crate) fn run_of(
     let mut files = FileStore::new(rt);
     let ended = run(rt.alloc(), &["leda"], &mut source, &mut files, &mut sink);
     Ok((ended, sink))
+}
+
+/// Fails where a script isn't answered with the replies that stand beside it.
+pub(crate) fn answers(
+    rt: &HostRuntime,
+    stop: &impl Abort,
+    rows: &[(&str, &str)],
+) -> Result<(), Fail> {
+    for (script, replies) in rows {
+        let (ended, sink) = run_of(rt, script, 4096)?;
+        assert_eq!(stop; ended, Status::Done, "after {script:?}");
+        assert_eq!(stop; sink.bytes(), replies.as_bytes(), "after {script:?}");
+    }
+    Ok(())
 }
 
 #[test]

@@ -10,5 +10,6 @@ pub mod Serving
 pub mod Edited
 pub mod Priced
 pub mod PathAnswers
+pub mod FlowAnswers
 pub mod Telling
 pub mod Verdicts

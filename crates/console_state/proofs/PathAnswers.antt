@@ -16,6 +16,7 @@ use Rattle.reply_text.proofs.SpNames.{sp_named}
 use Rattle.script_text.specs.declared.argument.Arg.{Arg}
 use Rattle.script_text.specs.declared.argument.Arg.TheVariants as args
 use Rattle.sp_search.specs.declared.refusals.SpRefusal.TheVariants as refused
+use Rattle.sp_search.specs.Refusals.{sizes}
 use Rattle.console_state.specs.declared.paths.PathSearch.{PathSearch}
 use Rattle.console_state.specs.declared.paths.PathSearch.TheVariants.{Sp, Dijkstra}
 use Rattle.console_state.specs.State.{State}
@@ -39,13 +40,16 @@ module _ (s : State) (shown : Shown) (is : IsShown s.graph shown) where
   costs-long name cost same =
       ap length same ∙ length-map (edge_names s) (value_in (edge_values s name)) ∙ edges_named s shown is
 
+  -- each arc stands for a visible edge
+  pub arc-inside : (arc : ℕ) → arc < length shown.net.arcs → arc < length shown.edges
+  arc-inside arc within =
+      subst (λ k. arc < k) (sym (edges_named s shown is) ∙ ap length (sym is.edges) ∙ length-map shown.edges (λ e. e.0.serial)) within
+
   -- the number in the name of an arc
   pub arc-number : (arc : ℕ) → arc < length shown.net.arcs → (e : EdgeItem)
       → (get_or shown.edges arc e).0.serial ≡ slice_index (edge_names s) arc
   arc-number arc within e =
-      let inside : arc < length shown.edges =
-      subst (λ k. arc < k) (sym (edges_named s shown is) ∙ ap length (sym is.edges) ∙ length-map shown.edges (λ e. e.0.serial)) within in
-      sym (number_at shown.edges arc e inside) ∙ ap (λ ks. slice_index ks arc) is.edges
+      sym (number_at shown.edges arc e (arc-inside arc within)) ∙ ap (λ ks. slice_index ks arc) is.edges
     where
       number_at : (es : List EdgeItem) (k : ℕ) (e : EdgeItem) → k < length es
           → slice_index (numbers_of_edges es) k ≡ (get_or es k e).0.serial
@@ -63,12 +67,12 @@ module _ (s : State) (name : List ℕ) (cost : List ℤ) (v : ℕ) (same : cost 
   said = args.Node v ∷ args.Name name ∷ []
 
   pub path-allowed : (search : PathSearch) → IsAllowed search cost → broken (word_of search) said s ≡ None
-  path-allowed Sp within = rw covered (within-bound s name cost same within)
-  path-allowed Dijkstra (all, within) = rw (covered, none-negative s name cost same all) (within-bound s name cost same within)
+  path-allowed Sp within = rw covered (within-bound s name cost same sizes within)
+  path-allowed Dijkstra (all, within) = rw (covered, none-negative s name cost same all) (within-bound s name cost same sizes within)
 
   pub path-beyond : (search : PathSearch) → MayRefuse search cost refused.Bound → broken (word_of search) said s ≡ Some Bound
-  path-beyond Sp beyond = rw covered (beyond-bound s name cost same beyond)
-  path-beyond Dijkstra (all, beyond) = rw (covered, none-negative s name cost same all) (beyond-bound s name cost same beyond)
+  path-beyond Sp beyond = rw covered (beyond-bound s name cost same sizes beyond)
+  path-beyond Dijkstra (all, beyond) = rw (covered, none-negative s name cost same all) (beyond-bound s name cost same sizes beyond)
 
   pub path-negative : (search : PathSearch) (arc : ℕ) → MayRefuse search cost (refused.Negative arc)
       → broken (word_of search) said s ≡ Some (Negative (slice_index (edge_names s) arc))

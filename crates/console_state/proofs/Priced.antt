@@ -10,10 +10,10 @@ use Rattle.object_store.specs.Listed.{AreValues, HoldsValues, IsFirstUncovered, 
 use Rattle.object_store.specs.State.{Valuation}
 use Rattle.reply_text.specs.declared.refusal.Refusal.{Refusal}
 use Rattle.reply_text.specs.declared.refusal.Refusal.TheVariants as refusals
-use Rattle.sp_search.specs.Refusals.{sizes, IsFirstNegative}
+use Rattle.sp_search.specs.Refusals.{IsFirstNegative}
 use Rattle.console_state.specs.State.{State}
 use Rattle.console_state.specs.Views.{edge_names}
-use Rattle.console_state.specs.Costs.{value_in, covers_in, edge_values, costs, uncovered, negative, unbounded}
+use Rattle.console_state.specs.Costs.{value_in, covers_in, edge_values, costs, uncovered, negative}
 
 -- ---- the values of an array or a map, one by one
 module _ (v : Valuation) where
@@ -111,10 +111,14 @@ module _ (s : State) (name : List ℕ) where
     first-negative arc is = ap (option_map refusals.Negative)
         (first_below (value_in (edge_values s name)) (edge_names s) arc (subst (λ c. IsFirstNegative c arc) same is))
 
-    pub within-bound : sizes cost ≤ℤ pos 4611686018427387903 → unbounded s name ≡ None
-    within-bound le = subst (λ c. cond (int_lt (pos 4611686018427387903) (sizes c)) (Some refusals.Bound) None ≡ None) same
-        (subst (λ b. cond b (Some refusals.Bound) None ≡ None) (sym (below_isnt (pos 4611686018427387903) (sizes cost) le)) refl)
+    -- so of any sum of the costs
+    module _ (sum : List ℤ → ℤ) where
+      pub within-bound : sum cost ≤ℤ pos 4611686018427387903
+          → cond (int_lt (pos 4611686018427387903) (sum (costs s name))) (Some refusals.Bound) None ≡ None
+      within-bound le = subst (λ c. cond (int_lt (pos 4611686018427387903) (sum c)) (Some refusals.Bound) None ≡ None) same
+          (subst (λ b. cond b (Some refusals.Bound) None ≡ None) (sym (below_isnt (pos 4611686018427387903) (sum cost) le)) refl)
 
-    pub beyond-bound : pos 4611686018427387903 <ℤ sizes cost → unbounded s name ≡ Some refusals.Bound
-    beyond-bound lt = subst (λ c. cond (int_lt (pos 4611686018427387903) (sizes c)) (Some refusals.Bound) None ≡ Some refusals.Bound) same
-        (subst (λ b. cond b (Some refusals.Bound) None ≡ Some refusals.Bound) (sym (below_is (pos 4611686018427387903) (sizes cost) lt)) refl)
+      pub beyond-bound : pos 4611686018427387903 <ℤ sum cost
+          → cond (int_lt (pos 4611686018427387903) (sum (costs s name))) (Some refusals.Bound) None ≡ Some refusals.Bound
+      beyond-bound lt = subst (λ c. cond (int_lt (pos 4611686018427387903) (sum c)) (Some refusals.Bound) None ≡ Some refusals.Bound) same
+          (subst (λ b. cond b (Some refusals.Bound) None ≡ Some refusals.Bound) (sym (below_is (pos 4611686018427387903) (sum cost) lt)) refl)

@@ -8,6 +8,7 @@ use Rattle.object_store.specs.Views.{object_of}
 use Rattle.reply_text.specs.declared.refusal.Refusal.{Refusal}
 use Rattle.reply_text.specs.declared.refusal.Refusal.TheVariants.{Covered, Negative, Bound}
 use Rattle.script_text.specs.declared.form.Kinds.TheVariants as kinds
+use Rattle.flow_net.specs.Refusals.{sum_of}
 use Rattle.sp_search.specs.Refusals.{sizes}
 use Rattle.console_state.specs.State.{State}
 use Rattle.console_state.specs.Views.{edge_names}
@@ -43,3 +44,8 @@ negative s name =
 abbrev pub unbounded : State → List ℕ → Option Refusal
 unbounded s name =
     if int_lt (pos 4611686018427387903) (sizes (costs s name)) then Some Bound else None
+
+-- the capacities sum up to more than that
+abbrev pub overfull : State → List ℕ → Option Refusal
+overfull s name =
+    if int_lt (pos 4611686018427387903) (sum_of (costs s name)) then Some Bound else None

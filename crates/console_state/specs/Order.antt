@@ -104,6 +104,7 @@ asks_directed (Value word) = false
 asks_directed (Query queries.Reach) = true
 asks_directed (Query queries.Sp) = true
 asks_directed (Query queries.Dijkstra) = true
+asks_directed (Query queries.Maxflow) = true
 asks_directed (Query queries.Matching) = false
 asks_directed (Query queries.Check) = false
 

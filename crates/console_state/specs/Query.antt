@@ -1,8 +1,9 @@
 -- What a query is refused by, and which answers to it are right.
-use Rattle.std.specs.Prelude.{◌≡◌, ℕ, List, [], ◌∷◌, Option, Some, None, MatchOption, if◌then◌else◌}
+use Rattle.std.specs.Prelude.{◌≡◌, ℕ, ◌==◌, List, [], ◌∷◌, Option, Some, None, MatchOption, if◌then◌else◌}
 use Rattle.std.specs.Option.{option_or}
 use Rattle.graph_defs.specs.declared.query.Kept.{Kept}
 use Rattle.graph_defs.specs.declared.query.Kept.TheVariants as sorts
+use Rattle.graph_defs.specs.Flow.{IsFlowAnswer}
 use Rattle.graph_defs.specs.Matching.{IsMatchAnswer}
 use Rattle.graph_defs.specs.Shortest.{IsSpAnswer}
 use Rattle.graph_defs.specs.Walk.{IsReach}
@@ -19,9 +20,10 @@ use Rattle.reply_text.specs.declared.reply.Answer.TheVariants as answers
 use Rattle.reply_text.specs.declared.reply.Named.{Named}
 use Rattle.reply_text.specs.declared.reply.Reply.{Reply}
 use Rattle.reply_text.specs.declared.reply.Reply.TheVariants.{Line, Query, Refused}
+use Rattle.kept_answers.specs.Carried.{IsFlowChecked}
 use Rattle.kept_answers.specs.Checked.{IsMatchChecked}
-use Rattle.kept_answers.specs.Told.{Told, IsSpChecked}
-use Rattle.console_state.specs.Costs.{costs, uncovered, negative, unbounded}
+use Rattle.kept_answers.specs.Told.{IsSpChecked}
+use Rattle.console_state.specs.Costs.{costs, uncovered, negative, unbounded, overfull}
 use Rattle.console_state.specs.State.{State}
 use Rattle.console_state.specs.Views.{net_of, node_names, edge_names, has_object, is_directed, AtPlaceOf}
 
@@ -34,10 +36,13 @@ missing s name =
 abbrev pub undirected : State → Option Refusal
 undirected s = if is_directed s then None else Some refusals.Undirected
 
--- what the check of a kept answer to `sp` or `dijkstra` is refused by
-abbrev pub refused_paths : State → Told → Option Refusal
-refused_paths s k =
-    option_or (missing s k.costs) (option_or (undirected s) (uncovered s k.costs))
+-- what the check of a kept answer is refused by that was told by an object's costs or capacities
+abbrev pub unpriced : State → List ℕ → Option Refusal
+unpriced s name = option_or (missing s name) (option_or (undirected s) (uncovered s name))
+
+-- the source of a flow is its sink
+abbrev pub same_ends : ℕ → ℕ → Option Refusal
+same_ends v w = if v == w then Some refusals.Same else None
 
 -- no answer of the sort is kept, or what else its check is refused by
 abbrev pub unless_kept : {K : Type 0} → Kept → (K → Option Refusal) → Option K → Option Refusal
@@ -45,7 +50,8 @@ unless_kept sort refused None = Some (refusals.Object (objects.Kept sort))
 unless_kept sort refused (Some answer) = refused answer
 
 abbrev pub unchecked : Kept → State → Option Refusal
-unchecked sorts.Sp s = unless_kept sorts.Sp (refused_paths s) s.kept.sp
+unchecked sorts.Sp s = unless_kept sorts.Sp (λ k. unpriced s k.costs) s.kept.sp
+unchecked sorts.Maxflow s = unless_kept sorts.Maxflow (λ k. unpriced s k.capacities) s.kept.flow
 unchecked sorts.Matching s = unless_kept sorts.Matching (λ k. None) s.kept.matching
 unchecked sort s = Some (refusals.Object (objects.Kept sort))
 
@@ -54,6 +60,9 @@ abbrev pub broken : QueryWord → List Arg → State → Option Refusal
 broken queries.Sp (args.Node v ∷ args.Name c ∷ []) s = option_or (uncovered s c) (unbounded s c)
 broken queries.Dijkstra (args.Node v ∷ args.Name c ∷ []) s =
     option_or (uncovered s c) (option_or (negative s c) (unbounded s c))
+broken queries.Maxflow (args.Node v ∷ args.Node w ∷ args.Name c ∷ []) s =
+    option_or (uncovered s c)
+    (option_or (same_ends v w) (option_or (negative s c) (overfull s c)))
 broken queries.Check (args.Kept sort ∷ []) s = unchecked sort s
 broken word args s = None
 
@@ -67,6 +76,9 @@ IsRight queries.Sp (args.Node v ∷ args.Name c ∷ []) s (answers.Sp answer) =
     AtPlaceOf (node_names s) v (λ source. IsSpAnswer (net_of s) source (costs s c) answer)
 IsRight queries.Dijkstra (args.Node v ∷ args.Name c ∷ []) s (answers.Sp answer) =
     AtPlaceOf (node_names s) v (λ source. IsSpAnswer (net_of s) source (costs s c) answer)
+IsRight queries.Maxflow (args.Node v ∷ args.Node w ∷ args.Name c ∷ []) s (answers.Flow answer) =
+    AtPlaceOf (node_names s) v (λ source. AtPlaceOf (node_names s) w (λ sink.
+    IsFlowAnswer (net_of s) source sink (costs s c) answer))
 IsRight queries.Matching [] s (answers.Matching answer) = IsMatchAnswer (net_of s) answer
 IsRight word args s answer = ⊥
 
@@ -80,6 +92,9 @@ pub record IsAnswer (word : QueryWord) (args : List Arg) (s : State) (named : Na
 abbrev pub IsVerdictOf : Kept → State → Named → Type 0
 IsVerdictOf sorts.Sp s named =
     MatchOption s.kept.sp ⊥ (λ answer. IsSpChecked s.graph (costs s answer.costs) answer named)
+IsVerdictOf sorts.Maxflow s named =
+    MatchOption s.kept.flow ⊥
+    (λ answer. IsFlowChecked s.graph (costs s answer.capacities) answer named)
 IsVerdictOf sorts.Matching s named =
     MatchOption s.kept.matching ⊥ (λ answer. IsMatchChecked s.graph answer named)
 IsVerdictOf sort s named = ⊥

@@ -5,7 +5,8 @@ use Rattle.graph_state.specs.State.{GraphState, empty_graph, state_code}
 use Rattle.object_store.specs.State.{ObjectState, no_objects, objects_code}
 use Rattle.reply_text.specs.Outcome.{Outcome}
 use Rattle.kept_answers.specs.declared.answers.KeptAnswers.{KeptAnswers}
-use Rattle.kept_answers.specs.Codes.{told_code}
+use Rattle.kept_answers.specs.Carried.{Carried}
+use Rattle.kept_answers.specs.Codes.{told_code, carried_code}
 use Rattle.kept_answers.specs.Kept.{Matched, matched_code}
 use Rattle.kept_answers.specs.Told.{Told}
 
@@ -18,9 +19,10 @@ pub record State : Type 0 where
   pub kept : KeptAnswers
 
 abbrev pub kept_code : Coded KeptAnswers
-kept_code = code_by (Option Told × Option Matched)
-    (coded× (coded_option told_code) (coded_option matched_code))
-    (λ k. (k.sp, k.matching)) (λ p. record { sp = p.0; matching = p.1 }) (λ _. refl)
+kept_code = code_by (Option Told × (Option Carried × Option Matched))
+    (coded× (coded_option told_code) (coded× (coded_option carried_code) (coded_option matched_code)))
+    (λ k. (k.sp, (k.flow, k.matching)))
+    (λ p. record { sp = p.0; flow = p.1.0; matching = p.1.1 }) (λ _. refl)
 
 abbrev pub session_code : Coded State
 session_code = code_by (GraphState × (ObjectState × KeptAnswers))
@@ -33,7 +35,7 @@ abbrev pub empty : State
 empty = record {
   graph = empty_graph true;
   objects = no_objects;
-  kept = record { sp = None; matching = None };
+  kept = record { sp = None; flow = None; matching = None };
 }
 
 -- what a change of the graph makes of the session, and what one of the objects does

@@ -1,5 +1,6 @@
 -- What a command does.
 use Rattle.std.specs.Prelude.{◌≡◌, ◌⊎◌, List, [], ◌∷◌, Option, Some, None, Ok, Err, option_map}
+use Rattle.graph_defs.specs.declared.flow.FlowAnswer.{FlowAnswer}
 use Rattle.graph_defs.specs.declared.matching.MatchAnswer.{MatchAnswer}
 use Rattle.graph_defs.specs.declared.shortest.SpAnswer.{SpAnswer}
 use Rattle.leda_edge.specs.Stored.{Stored}
@@ -24,6 +25,7 @@ use Rattle.reply_text.specs.declared.reply.Reply.TheVariants as replies
 use Rattle.reply_text.specs.Outcome.{Outcome, done, refused, LacksMemory, IsQuiet}
 use Rattle.object_store.specs.Commands.{objects_done}
 use Rattle.object_store.specs.Values.{ValuesDone}
+use Rattle.kept_answers.specs.Carried.{carried}
 use Rattle.kept_answers.specs.Kept.{matched}
 use Rattle.kept_answers.specs.Told.{told as told_by}
 use Rattle.console_state.specs.State.{State, on_graph, on_objects}
@@ -57,6 +59,13 @@ with_paths (args.Node v ∷ args.Name c ∷ []) named answer s = record s {
 }
 with_paths args named answer s = s
 
+-- the session with an answer to `maxflow` of these arguments kept
+abbrev pub with_flow : List Arg → Named → FlowAnswer → State → State
+with_flow (args.Node v ∷ args.Node w ∷ args.Name c ∷ []) named answer s = record s {
+  kept = record s.kept { flow = Some (carried v w c named.nodes named.edges answer) };
+}
+with_flow args named answer s = s
+
 -- the session with an answer to `matching` kept
 abbrev pub with_matching : Named → MatchAnswer → State → State
 with_matching named answer s =
@@ -68,6 +77,8 @@ abbrev pub with_answer : Answer → Word → List Arg → Named → State → St
 with_answer (answers.Sp answer) (Query queries.Sp) args named s = with_paths args named answer s
 with_answer (answers.Sp answer) (Query queries.Dijkstra) args named s =
     with_paths args named answer s
+with_answer (answers.Flow answer) (Query queries.Maxflow) args named s =
+    with_flow args named answer s
 with_answer (answers.Matching answer) (Query queries.Matching) args named s =
     with_matching named answer s
 with_answer answer word args named s = s

@@ -313,7 +313,9 @@ fn asks_directed(word: Word) -> bool
 {
     match word {
         Word::Look(LookWord::InEdges | LookWord::FaceSucc)
-        | Word::Query(QueryWord::Reach | QueryWord::Sp | QueryWord::Dijkstra) => true,
+        | Word::Query(
+            QueryWord::Reach | QueryWord::Sp | QueryWord::Dijkstra | QueryWord::Maxflow,
+        ) => true,
         Word::Edit(_)
         | Word::Look(_)
         | Word::File(_)

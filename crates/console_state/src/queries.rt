@@ -1,6 +1,7 @@
 //! The queries, and the checks of answers that are kept.
-ghost use Rattle.std.specs.Prelude.{◌≡◌, ◌⊎◌, Some, None, true, [], ◌∷◌, IfOk};
+ghost use Rattle.std.specs.Prelude.{◌≡◌, ◌⊎◌, ◌<◌, Some, None, true, [], ◌∷◌, length, slice_index, IfOk};
 ghost use Rattle.leda_base.specs.declared.ItemName.TheVariants as items;
+ghost use Rattle.leda_base.specs.Name.{IsShortName};
 ghost use Rattle.graph_state.specs.Refusals.{AreVisible};
 ghost use Rattle.script_text.specs.declared.argument.Arg.TheVariants as args;
 ghost use Rattle.script_text.specs.declared.form.Kinds.TheVariants as kinds;
@@ -19,17 +20,18 @@ ghost use Rattle.console_state.specs.Clear.{AreMet};
 ghost use Rattle.console_state.specs.Costs.{costs, uncovered};
 ghost use Rattle.console_state.specs.Keeping.{IsToKeep};
 ghost use Rattle.console_state.specs.Paths.{word_of};
-ghost use Rattle.console_state.specs.Query.{Answers};
+ghost use Rattle.console_state.specs.Query.{unpriced, Answers};
 ghost use Rattle.console_state.specs.Told.{TellsOf, IsUnlessRefused, reply_of};
-ghost use Rattle.console_state.specs.Views.{has_object};
+ghost use Rattle.console_state.specs.Views.{edge_names, has_object};
 
 use crate::names::named;
 use crate::paths::PathSearch;
 use crate::session::Session;
+use flow_preflow::{FlowRefusal, preflow};
 use graph_defs::Kept;
 use graph_search::reach;
 use hide_restore::{Shown, net};
-use kept_answers::KeptPaths;
+use kept_answers::{KeptFlow, KeptPaths};
 use leda_base::{NoMemory, Row};
 use match_search::max_matching;
 use object_store::ValuesRefusal;
@@ -92,6 +94,9 @@ impl Session {
             (QueryWord::Dijkstra, [Arg::Node(source), Arg::Name(costs)]) => {
                 self.paths(shown, PathSearch::Dijkstra, *source, costs.as_slice())
             }
+            (QueryWord::Maxflow, [Arg::Node(source), Arg::Node(sink), Arg::Name(capacities)]) => {
+                self.flow(shown, *source, *sink, capacities.as_slice())
+            }
             (QueryWord::Matching, []) => self.matching(shown),
             (QueryWord::Check, [Arg::Kept(sort)]) => self.check(shown, *sort),
             _ => unreachable!(),
@@ -134,9 +139,7 @@ impl Session {
         };
         match search.answer(self.alloc, &shown.net, source, costs.as_slice()) {
             Ok(answer) => self.told(shown, Answer::Sp(answer)),
-            Err(SpRefusal::Negative(arc)) => {
-                Reply::Refused(Refusal::Negative(shown.edges.as_slice()[arc as usize].0.serial))
-            }
+            Err(SpRefusal::Negative(arc)) => Reply::Refused(self.negative(shown, arc)),
             Err(SpRefusal::Bound) => Reply::Refused(Refusal::Bound),
             Err(SpRefusal::NoMemory) => Reply::Refused(Refusal::Memory),
         }
@@ -160,6 +163,57 @@ impl Session {
             Err(ValuesRefusal::NoMemory) => Err(Refusal::Memory),
             Err(ValuesRefusal::Object) => unreachable!(),
         }
+    }
+
+    /// A maximum flow, by the capacities that the object of the name has.
+    fn flow(&self, shown: &Shown, source: u32, sink: u32, name: &[u8]) -> Reply
+        requires shown { IsShown self.now.graph shown.now }
+        requires source { AreVisible self.now.graph (items.Node source ∷ []) }
+        requires sink { AreVisible self.now.graph (items.Node sink ∷ []) }
+        requires capacities { has_object self.now kinds.EdgeValues name.now ≡ true }
+        requires short { IsShortName name.now }
+        ensures replies { LacksMemory true self.now result self.now
+            ⊎ Answers queries.Maxflow
+            (args.Node source ∷ args.Node sink ∷ args.Name name.now ∷ []) self.now result }
+        ensures named { IsNamed result }
+        ensures keepable { IsToKeep (record {
+          word = words.Query queries.Maxflow;
+          args = args.Node source ∷ args.Node sink ∷ args.Name name.now ∷ [];
+        }) result }
+    {
+        let (Some(from), Some(to)) = (shown.places.place(source), shown.places.place(sink)) else {
+            unreachable!()
+        };
+        let capacities = match self.costs(shown, name) {
+            Ok(capacities) => capacities,
+            Err(refusal) => return Reply::Refused(refusal),
+        };
+        // Asked for what it promises beside the count: that the lists are formed, so names differ.
+        let _made = self.graph.made_nodes();
+        let mut steps = 0;
+        match preflow(
+            self.alloc,
+            &shown.net,
+            from,
+            to,
+            capacities.as_slice(),
+            &mut steps,
+        ) {
+            Ok(answer) => self.told(shown, Answer::Flow(answer)),
+            Err(FlowRefusal::Same) => Reply::Refused(Refusal::Same),
+            Err(FlowRefusal::Negative(arc)) => Reply::Refused(self.negative(shown, arc)),
+            Err(FlowRefusal::Bound) => Reply::Refused(Refusal::Bound),
+            Err(FlowRefusal::NoMemory) => Reply::Refused(Refusal::Memory),
+        }
+    }
+
+    /// The edge of the arc has a cost below 0.
+    fn negative(&self, shown: &Shown, arc: u32) -> Refusal
+        requires shown { IsShown self.now.graph shown.now }
+        requires arc { arc < length shown.now.net.arcs }
+        ensures { result ≡ refusals.Negative (slice_index (edge_names self.now) arc) }
+    {
+        Refusal::Negative(shown.edges.as_slice()[arc as usize].0.serial)
     }
 
     fn matching(&self, shown: &Shown) -> Reply
@@ -196,9 +250,10 @@ impl Session {
             ⊎ Answers queries.Check (args.Kept sort ∷ []) self.now result }
         ensures named { IsNamed result }
     {
-        match (sort, &self.kept.sp, &self.kept.matching) {
-            (Kept::Sp, Some(kept), _) => self.check_paths(shown, kept),
-            (Kept::Matching, _, Some(kept)) => {
+        match (sort, &self.kept.sp, &self.kept.flow, &self.kept.matching) {
+            (Kept::Sp, Some(kept), _, _) => self.check_paths(shown, kept),
+            (Kept::Maxflow, _, Some(kept), _) => self.check_flow(shown, kept),
+            (Kept::Matching, _, _, Some(kept)) => {
                 verdict(kept.check(self.alloc, &self.graph, shown))
             }
             _ => Reply::Refused(Refusal::Object(ObjectName::Kept(sort))),
@@ -213,27 +268,54 @@ impl Session {
             ⊎ Answers queries.Check (args.Kept sorts.Sp ∷ []) self.now result }
         ensures named { IsNamed result }
     {
-        let name = kept.costs();
-        if !self.has_object(Kinds::EdgeValues, name) {
-            return self.missing(name);
-        }
-        if !self.is_directed() {
-            return Reply::Refused(Refusal::Undirected);
-        }
-        match self.costs(shown, name) {
+        match self.costs_now(shown, kept.costs()) {
             Ok(costs) => verdict(kept.check(self.alloc, &self.graph, shown, costs.as_slice())),
             Err(refusal) => Reply::Refused(refusal),
         }
     }
 
+    /// The verdict on an answer to `maxflow`, by the capacities as they are now.
+    fn check_flow(&self, shown: &Shown, kept: &KeptFlow) -> Reply
+        requires shown { IsShown self.now.graph shown.now }
+        requires kept { self.now.kept.flow ≡ Some kept.now }
+        ensures replies { LacksMemory true self.now result self.now
+            ⊎ Answers queries.Check (args.Kept sorts.Maxflow ∷ []) self.now result }
+        ensures named { IsNamed result }
+    {
+        match self.costs_now(shown, kept.capacities()) {
+            Ok(capacities) => {
+                verdict(kept.check(self.alloc, &self.graph, shown, capacities.as_slice()))
+            }
+            Err(refusal) => Reply::Refused(refusal),
+        }
+    }
+
+    /// The costs or capacities of the visible edges as they are now, by the name of the object that
+    /// an answer was told by.
+    ///
+    /// # Errors
+    /// The refusal: `Object` where no object has the name, `Undirected`, and those of `costs`.
+    fn costs_now(&self, shown: &Shown, name: &[u8]) -> Result<Row<i64>, Refusal>
+        requires { IsShown self.now.graph shown.now }
+        ensures { IsUnlessRefused (unpriced self.now name.now) (costs self.now name.now) result }
+    {
+        if !self.has_object(Kinds::EdgeValues, name) {
+            return Err(self.missing(name));
+        }
+        if !self.is_directed() {
+            return Err(Refusal::Undirected);
+        }
+        self.costs(shown, name)
+    }
+
     /// No object has the name.
-    fn missing(&self, name: &[u8]) -> Reply
-        ensures { (result ≡ replies.Refused refusals.Memory)
-            ⊎ (result ≡ replies.Refused (refusals.Object (objects.Name name.now))) }
+    fn missing(&self, name: &[u8]) -> Refusal
+        ensures { (result ≡ refusals.Memory)
+            ⊎ (result ≡ refusals.Object (objects.Name name.now)) }
     {
         match Row::from_slice(self.alloc, name) {
-            Ok(name) => Reply::Refused(Refusal::Object(ObjectName::Name(name))),
-            Err(NoMemory) => Reply::Refused(Refusal::Memory),
+            Ok(name) => Refusal::Object(ObjectName::Name(name)),
+            Err(NoMemory) => Refusal::Memory,
         }
     }
 }

@@ -65,6 +65,7 @@ impl Session {
             objects: Objects::new(alloc),
             kept: KeptAnswers {
                 sp: None,
+                flow: None,
                 matching: None,
             },
             shown: None,

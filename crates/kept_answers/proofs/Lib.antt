@@ -3,3 +3,4 @@ mod Shown
 mod Matchings
 mod Firsts
 mod Paths
+mod Flows

@@ -1,6 +1,6 @@
 -- Numbers in lists.
 use Rattle.std.proofs.Common.{◌≡◌, ℕ, suc, ◌+◌, ◌<◌, ◌≤◌, true, false, cond, ◌||◌, List, [], ◌∷◌, length, take, get_or, refl, sym, subst, inl, inr, arith, All}
-use Rattle.std.specs.Prelude.{Option, None, MatchOption}
+use Rattle.std.specs.Prelude.{Option, None, MatchOption, Result, Ok, Err, IfOk}
 use Rattle.std.proofs.lemmas.List.{take_more, take_all}
 use Rattle.std.proofs.lemmas.List.Elements.{All-push}
 use Rattle.graph_state.specs.Names.{Has, IsOnce}
@@ -59,3 +59,8 @@ none_above xs i m past all = subst (λ (ys : List ℕ). All (λ y. y ≤ m) ys) 
 -- no edge is visible twice
 pub shown_once : (g : GraphState) → IsFormed g → IsOnce (edge_numbers g)
 shown_once g f = once_filter (shows_edge g) g.edges (edges_once g f)
+
+-- what holds of the reply that is given
+pub as_given : {T E : Type 0} (P : T → Type 0) (reply : Result T E) (told : T) → IfOk reply (λ given. given ≡ told) → P told → IfOk reply P
+as_given P (Ok given) told same holds = subst P (sym same) holds
+as_given P (Err lack) told same holds = tt

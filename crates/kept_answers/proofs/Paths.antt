@@ -24,7 +24,7 @@ use Rattle.kept_answers.specs.Told.{first_gone, as_now, IsAnswerChecked}
 use Rattle.kept_answers.proofs.Listed.{none_found}
 
 -- a number that is listed has a place within the list
-place_within : (k : ℕ) (ks : List ℕ) → is_listed k ks ≡ true → place_of k ks < length ks
+pub place_within : (k : ℕ) (ks : List ℕ) → is_listed k ks ≡ true → place_of k ks < length ks
 place_within k [] is = absurd cc
 place_within k (j ∷ js) is = elim (nat_tells j k) [
   | inl y ↦ subst (λ b. cond b 0 (place_of k js + 1) < length (j ∷ js)) (sym y.0) (omega arith)

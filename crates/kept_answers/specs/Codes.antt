@@ -1,12 +1,14 @@
--- A code of kept shortest paths, by which a proof tells them apart.
+-- Codes of kept shortest paths and of kept flows, by which a proof tells them apart.
 use Rattle.std.specs.Prelude.{◌≡◌, ℕ, zero, suc, ℤ, List, Option, refl}
 use Rattle.std.specs.Coded.{Coded, code_by, coded×, coded_ℕ, coded_ℤ, coded_list, coded_option}
+use Rattle.graph_defs.specs.declared.flow.FlowAnswer.{FlowAnswer}
 use Rattle.graph_defs.specs.declared.shortest.Finite.{Finite}
 use Rattle.graph_defs.specs.declared.shortest.Low.{Low}
 use Rattle.graph_defs.specs.declared.shortest.Seed.{Seed}
 use Rattle.graph_defs.specs.declared.shortest.SpAnswer.{SpAnswer}
 use Rattle.graph_defs.specs.declared.shortest.Why.{Why}
 use Rattle.graph_defs.specs.declared.shortest.Why.TheVariants as why
+use Rattle.kept_answers.specs.Carried.{Carried}
 use Rattle.kept_answers.specs.Told.{Told}
 
 abbrev finite_code : Coded Finite
@@ -50,3 +52,22 @@ told_code = code_by (ℕ × (List ℕ × SpAnswer))
     (coded× coded_ℕ (coded× (coded_list coded_ℕ) sp_code))
     (λ k. (k.source, (k.costs, k.answer)))
     (λ p. record { source = p.0; costs = p.1.0; answer = p.1.1 }) (λ _. refl)
+
+abbrev flow_code : Coded FlowAnswer
+flow_code = code_by (List ℤ × (ℤ × List ℕ))
+    (coded× (coded_list coded_ℤ) (coded× coded_ℤ (coded_list coded_ℕ)))
+    (λ a. (a.flow, (a.value, a.cut)))
+    (λ p. record { flow = p.0; value = p.1.0; cut = p.1.1 }) (λ _. refl)
+
+abbrev pub carried_code : Coded Carried
+carried_code = code_by (ℕ × (ℕ × (List ℕ × (List ℕ × FlowAnswer))))
+    (coded× coded_ℕ (coded× coded_ℕ
+    (coded× (coded_list coded_ℕ) (coded× (coded_list coded_ℕ) flow_code))))
+    (λ k. (k.source, (k.sink, (k.capacities, (k.edges, k.answer)))))
+    (λ p. record {
+      source = p.0;
+      sink = p.1.0;
+      capacities = p.1.1.0;
+      edges = p.1.1.1.0;
+      answer = p.1.1.1.1;
+    }) (λ _. refl)

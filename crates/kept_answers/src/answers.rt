@@ -1,5 +1,6 @@
 //! The answers that are kept.
 
+use crate::carried::KeptFlow;
 use crate::matching::KeptMatching;
 use crate::told::KeptPaths;
 
@@ -8,6 +9,8 @@ use crate::told::KeptPaths;
 pub struct KeptAnswers {
     /// To `sp` or `dijkstra`.
     pub sp: Option<KeptPaths>,
+    /// To `maxflow`.
+    pub flow: Option<KeptFlow>,
     /// To `matching`.
     pub matching: Option<KeptMatching>,
 }

@@ -1,5 +1,6 @@
 //! The first node or edge of an answer on shortest paths that is gone.
 ghost use Rattle.std.specs.Prelude.{◌≡◌};
+ghost use Rattle.kept_answers.specs.Carried.{first_gone_of};
 ghost use Rattle.kept_answers.specs.Told.{first_in, gone_node, gone_edge, gone_of_finite, gone_of_seed, gone_of_reason, gone_of_low, first_gone};
 
 use crate::lookup::is_among;
@@ -28,6 +29,24 @@ pub(crate) fn first_gone(
         .or_else(|| gone_in_seeds(nodes, edges, answer.seeds.as_slice()))
         .or_else(|| gone_in_low(nodes, edges, answer.low.as_slice()))
         .or_else(|| gone_in_nodes(nodes, answer.unreached.as_slice()))
+}
+
+/// The first that is gone of a flow: of its source, its sink, the edges along which something
+/// flows, and the nodes of its cut, where these nodes and edges are visible.
+pub(crate) fn first_gone_of(
+    nodes: &Places,
+    edges: &Places,
+    from: u32,
+    to: u32,
+    carrying: &[u32],
+    cut: &[u32],
+) -> Option<GoneItem>
+    ensures { result ≡ first_gone_of nodes.now edges.now from to carrying.now cut.now }
+{
+    gone_node(nodes, from)
+        .or_else(|| gone_node(nodes, to))
+        .or_else(|| gone_in_edges(edges, carrying))
+        .or_else(|| gone_in_nodes(nodes, cut))
 }
 
 fn gone_in_finite(nodes: &Places, edges: &Places, lines: &[Finite]) -> Option<GoneItem>

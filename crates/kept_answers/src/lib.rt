@@ -6,6 +6,7 @@
 #![tactic(auto)]
 
 mod answers;
+mod carried;
 mod gone;
 mod lookup;
 mod matching;
@@ -15,6 +16,7 @@ mod told;
 mod verdict;
 
 pub use answers::KeptAnswers;
+pub use carried::KeptFlow;
 pub use matching::KeptMatching;
 pub use told::KeptPaths;
 

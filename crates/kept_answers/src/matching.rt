@@ -6,13 +6,13 @@ ghost use Rattle.kept_answers.specs.Kept.{matched, IsKeepable};
 ghost use Rattle.kept_answers.specs.Shown.{IsShown};
 
 use crate::lookup::{edge_places, entries_at, first_outside, places_among, places_of};
-use crate::verdict::{about_edge, about_node};
+use crate::verdict::{about_edge, about_net, about_node};
 use graph_core::Graph;
 use graph_defs::{Cond, MatchAnswer};
 use hide_restore::Shown;
 use leda_base::{NoMemory, Row};
 use match_check::check_matching;
-use reply_text::{Answer, Named};
+use reply_text::Named;
 use std::alloc::Global;
 use std::marker::Model;
 
@@ -104,9 +104,5 @@ fn check(
         cover: entries_at(alloc, answer.cover.as_slice(), places.as_slice())?,
     };
     let verdict = check_matching(alloc, &shown.net, &renumbered)?;
-    Ok(Named {
-        nodes: Row::from_slice(alloc, shown.places.numbers())?,
-        edges: Row::from_slice(alloc, visible.numbers())?,
-        answer: Answer::Verdict(verdict),
-    })
+    about_net(alloc, &shown.places, &visible, verdict)
 }

@@ -3,18 +3,18 @@ ghost use Rattle.std.specs.Prelude.{◌≡◌, length, IfOk};
 ghost use Rattle.leda_base.specs.Name.{IsShortName};
 ghost use Rattle.reply_text.specs.Text.{IsAnswerNamed};
 ghost use Rattle.kept_answers.specs.Shown.{IsShown};
-ghost use Rattle.kept_answers.specs.Told.{told, about_gone, IsAnswerChecked, IsSpChecked};
+ghost use Rattle.kept_answers.specs.Told.{told, IsAnswerChecked, IsSpChecked};
 
-use crate::gone::{GoneItem, first_gone};
+use crate::gone::first_gone;
 use crate::lookup::{edge_places, place_among};
 use crate::missing::first_missing;
 use crate::renaming::{Among, Entries, renamed};
-use crate::verdict::{about_edge, about_node};
+use crate::verdict::{about_gone, about_net, about_node};
 use graph_core::Graph;
 use graph_defs::{Cond, SpAnswer};
 use hide_restore::Shown;
 use leda_base::{NoMemory, Row};
-use reply_text::{Answer, Named};
+use reply_text::Named;
 use sp_check::check_sp;
 use std::alloc::Global;
 use std::marker::Model;
@@ -124,19 +124,5 @@ fn check(
     let as_now = renamed(alloc, &Among(&shown.places), &Among(&visible), told)?;
     let source = place_among(&shown.places, source);
     let verdict = check_sp(alloc, &shown.net, source, cost, &as_now)?;
-    Ok(Named {
-        nodes: Row::from_slice(alloc, shown.places.numbers())?,
-        edges: Row::from_slice(alloc, visible.numbers())?,
-        answer: Answer::Verdict(verdict),
-    })
-}
-
-/// The item is gone, which is the one that is named.
-fn about_gone(alloc: Global, item: GoneItem) -> Result<Named, NoMemory>
-    ensures { IfOk result (λ named. named ≡ about_gone item) }
-{
-    match item {
-        GoneItem::Node(v) => about_node(alloc, Cond::Gone, v),
-        GoneItem::Edge(e) => about_edge(alloc, Cond::Gone, e),
-    }
+    about_net(alloc, &shown.places, &visible, verdict)
 }

@@ -1,3 +1,4 @@
 mod Labels
 mod Lines
 pub mod SpNames
+pub mod Flows

@@ -3,6 +3,7 @@ use Rattle.std.specs.Prelude.{◌≡◌, ℕ, ◌<◌, List, [], ◌∷◌, ◌+
 use Rattle.std.specs.List.{flat_map}
 use Rattle.graph_defs.specs.declared.answer.Reach.{Reach as ReachAnswer}
 use Rattle.graph_defs.specs.declared.answer.Reach.TheVariants.{Walk, Closed}
+use Rattle.graph_defs.specs.declared.flow.FlowAnswer.{FlowAnswer}
 use Rattle.graph_defs.specs.declared.matching.MatchAnswer.{MatchAnswer}
 use Rattle.graph_defs.specs.declared.shortest.SpAnswer.{SpAnswer}
 use Rattle.graph_defs.specs.declared.shortest.Finite.{Finite}
@@ -10,13 +11,14 @@ use Rattle.graph_defs.specs.declared.shortest.Low.{Low}
 use Rattle.graph_defs.specs.declared.shortest.Seed.{Seed}
 use Rattle.reply_text.specs.declared.refusal.Refusal.{Refusal}
 use Rattle.reply_text.specs.declared.reply.Answer.{Answer}
-use Rattle.reply_text.specs.declared.reply.Answer.TheVariants.{Reach, Sp, Matching, Verdict}
+use Rattle.reply_text.specs.declared.reply.Answer.TheVariants.{Reach, Sp, Flow, Matching, Verdict}
 use Rattle.reply_text.specs.declared.reply.Reply.{Reply}
 use Rattle.reply_text.specs.declared.reply.Reply.TheVariants.{Line, Query, Refused}
 use Rattle.reply_text.specs.declared.reply.ReplyLine.{ReplyLine}
 use Rattle.reply_text.specs.declared.reply.ReplyLine.TheVariants as lines
 use Rattle.reply_text.specs.Words.{words_at, labelled_words, line_words, reach_words}
 use Rattle.reply_text.specs.Shortest.{sp_words, finite_words, seed_words, low_words, unreached_words, IsSpNamed}
+use Rattle.reply_text.specs.Flows.{carriers, carried_words, flow_words, IsFlowNamed}
 use Rattle.reply_text.specs.Verdicts.{verdict_words, IsVerdictNamed}
 use Rattle.reply_text.specs.Refusals.{refusal_words, IsRefusalNamed}
 
@@ -55,6 +57,13 @@ sp_lines nodes edges answer =
     ++ (seed_lines nodes edges answer.seeds ++ (low_lines nodes edges answer.low
     ++ unreached_lines nodes answer.unreached)))
 
+-- a maximum flow: its value, the edges along which something flows, and the source's side of a cut
+abbrev pub flow_lines : List ℕ → List ℕ → FlowAnswer → List TextLine
+flow_lines nodes edges answer =
+    success (flow_words answer)
+    ∷ witness (codes "flow" ∷ carried_words edges answer.flow (carriers answer.flow))
+    ∷ witness (codes "cut" ∷ words_at (codes "n") nodes answer.cut) ∷ []
+
 -- a matching: its size, its edges, and the label of each node
 abbrev pub match_lines : List ℕ → List ℕ → MatchAnswer → List TextLine
 match_lines nodes edges answer =
@@ -66,6 +75,7 @@ match_lines nodes edges answer =
 abbrev pub answer_lines : List ℕ → List ℕ → Answer → List TextLine
 answer_lines nodes edges (Reach answer) = success (reach_words nodes edges answer) ∷ []
 answer_lines nodes edges (Sp answer) = sp_lines nodes edges answer
+answer_lines nodes edges (Flow answer) = flow_lines nodes edges answer
 answer_lines nodes edges (Matching answer) = match_lines nodes edges answer
 answer_lines nodes edges (Verdict verdict) = success (verdict_words nodes edges verdict) ∷ []
 
@@ -99,6 +109,7 @@ pub record IsMatchNamed (nodes arcs : List ℕ) (answer : MatchAnswer) : Type 0 
 abbrev pub IsAnswerNamed : List ℕ → List ℕ → Answer → Type 0
 IsAnswerNamed nodes edges (Reach answer) = IsReachNamed nodes edges answer
 IsAnswerNamed nodes edges (Sp answer) = IsSpNamed nodes edges answer
+IsAnswerNamed nodes edges (Flow answer) = IsFlowNamed nodes edges answer
 IsAnswerNamed nodes edges (Matching answer) = IsMatchNamed nodes edges answer
 IsAnswerNamed nodes edges (Verdict verdict) = IsVerdictNamed nodes edges verdict
 

@@ -48,7 +48,11 @@ pub(crate) fn append_number<I: Integer>(to: &mut Vec<u8>, number: I) -> Result<(
 }
 
 /// Appends a letter and a number.
-fn append_numbered(to: &mut Vec<u8>, letter: &[u8], number: u32) -> Result<(), AllocError>
+pub(crate) fn append_numbered(
+    to: &mut Vec<u8>,
+    letter: &[u8],
+    number: u32,
+) -> Result<(), AllocError>
     requires { length letter.now ≡ 1 }
     ensures text { Appends (numbered letter.now number) to.old to.new result }
     ensures room { TakesRoom 11 to.old to.new result }
@@ -192,7 +196,8 @@ fn append_values(to: &mut Vec<u8>, values: &[i64]) -> Result<(), AllocError>
     Ok(())
 }
 
-fn append_value(to: &mut Vec<u8>, value: i64) -> Result<(), AllocError>
+/// Appends a colon and the value.
+pub(crate) fn append_value(to: &mut Vec<u8>, value: i64) -> Result<(), AllocError>
     ensures { Appends (value_text value) to.old to.new result }
 {
     append(to, b":")?;

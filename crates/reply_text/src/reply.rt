@@ -1,7 +1,7 @@
 //! What a command is answered with.
 
 use crate::refusal::Refusal;
-use graph_defs::{MatchAnswer, Reach, SpAnswer, Verdict};
+use graph_defs::{FlowAnswer, MatchAnswer, Reach, SpAnswer, Verdict};
 use leda_base::{ItemName, Row};
 
 /// What a command is answered with.
@@ -57,6 +57,8 @@ pub enum Answer {
     Reach(Reach),
     /// Shortest paths from one node.
     Sp(SpAnswer),
+    /// A maximum flow, and a cut of its value.
+    Flow(FlowAnswer),
     Matching(MatchAnswer),
     /// What a checker says of an answer. It names the node or the edge at the verdict's place; for
     /// an item that is gone, or a node without a value, that one is the only name there is.

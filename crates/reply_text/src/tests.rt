@@ -8,7 +8,7 @@ ghost use Rattle.std.specs.Prelude.{◌≡◌, [], ◌∷◌};
 
 use crate::{Answer, CellShow, Named, ObjectName, Refusal, Reply, ReplyLine, put_reply};
 use graph_defs::{
-    Cond, Finite, Kept, Low, MatchAnswer, Reach, Seed, SpAnswer, TextKind, Verdict, Why,
+    Cond, Finite, FlowAnswer, Kept, Low, MatchAnswer, Reach, Seed, SpAnswer, TextKind, Verdict, Why,
 };
 use leda_base::{ItemName, NoMemory, Row};
 use std::alloc::Global;
@@ -85,6 +85,26 @@ fn a_matching_has_its_size_its_edges_and_its_labels(rt: HostRuntime) -> Result<(
     assert_eq!(rt;
         text_of(alloc, &Reply::Query(matching))?.as_slice(),
         b"= matching 1\n+ match e8\n+ cover n4:1 n9:0\n".as_slice()
+    );
+    Ok(())
+}
+
+#[test]
+fn a_flow_has_its_value_what_the_edges_carry_and_its_cut(rt: HostRuntime) -> Result<(), Fail> {
+    let alloc = rt.alloc();
+    let flow = Named {
+        nodes: Row::from_vec([4, 9].to_vec(alloc)?),
+        edges: Row::from_vec([3, 8, 1].to_vec(alloc)?),
+        answer: Answer::Flow(FlowAnswer {
+            flow: Row::from_vec([3, 0, 4_611_686_018_427_387_900].to_vec(alloc)?),
+            value: 4_611_686_018_427_387_903,
+            cut: Row::from_vec([1].to_vec(alloc)?),
+        }),
+    };
+    let text = "= maxflow 4611686018427387903\n+ flow e3:3 e1:4611686018427387900\n+ cut n9\n";
+    assert_eq!(rt;
+        text_of(alloc, &Reply::Query(flow))?.as_slice(),
+        text.as_bytes()
     );
     Ok(())
 }

@@ -10,6 +10,7 @@ use crate::appending::{
     append, append_cells, append_item, append_items, append_label, append_number, append_subject,
     append_word,
 };
+use crate::flow::append_flow;
 use crate::line::{append_counts, append_line_at, append_line_labelled};
 use crate::refusal::Refusal;
 use crate::reply::{Answer, Reply, ReplyLine};
@@ -120,6 +121,7 @@ fn append_answer(
     match answer {
         Answer::Reach(reach) => append_reach(to, nodes, edges, reach),
         Answer::Sp(shortest) => append_sp(to, nodes, edges, shortest),
+        Answer::Flow(flow) => append_flow(to, nodes, edges, flow),
         Answer::Matching(matching) => append_matching(to, nodes, edges, matching),
         Answer::Verdict(verdict) => append_verdict(to, nodes, edges, *verdict),
     }

@@ -92,7 +92,7 @@ macro_rules! rows {
 pub(crate) use rows;
 
 /// The table. All that is said of a command before it runs is said here.
-pub(crate) const TABLE: [Entry; 82] = rows! {
+pub(crate) const TABLE: [Entry; 83] = rows! {
     "node"            Edit(EditWord::Node)             [LABEL]              Taken;
     "edge"            Edit(EditWord::Edge)             [NODE, NODE, LABEL]  Taken;
     "edge_before"     Edit(EditWord::EdgeBefore)       [EDGE, NODE, LABEL]  Taken;
@@ -173,6 +173,7 @@ pub(crate) const TABLE: [Entry; 82] = rows! {
     "reach"           Query(QueryWord::Reach)          [NODE, NODE]         TakenByReply;
     "sp"              Query(QueryWord::Sp)             [NODE, EDGE_VALUES]  TakenByReply;
     "dijkstra"        Query(QueryWord::Dijkstra)       [NODE, EDGE_VALUES]  TakenByReply;
+    "maxflow"         Query(QueryWord::Maxflow)        [NODE, NODE, EDGE_VALUES] TakenByReply;
     "matching"        Query(QueryWord::Matching)       []                   TakenByReply;
     "check"           Query(QueryWord::Check)          [KEPT]               TakenByReply;
 };

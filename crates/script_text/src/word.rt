@@ -108,6 +108,7 @@ pub enum QueryWord {
     Reach,
     Sp,
     Dijkstra,
+    Maxflow,
     Matching,
     Check,
 }

@@ -1,7 +1,11 @@
 use Rattle.std.proofs.Common.{◌≡◌, ◌≤◌, List, ℕ, length, refl, sym, ap, subst, ◌∙◌}
 use Rattle.graph_defs.specs.declared.net.TheConstants.{ARC_LIMIT}
 use Rattle.hide_restore.specs.Net.{node_numbers, edge_numbers}
-use Rattle.kept_answers.specs.Checked.{first_outside, places_in}
+use Rattle.reply_text.specs.declared.reply.Answer.TheVariants.{Verdict}
+use Rattle.reply_text.specs.declared.reply.Named.{Named}
+use Rattle.reply_text.specs.Text.{IsAnswerNamed}
+use Rattle.kept_answers.specs.Checked.{first_outside, places_in, IsMatchChecked}
+use Rattle.kept_answers.proofs.Listed.{as_given}
 use Rattle.kept_answers.specs.Kept.{matched, entries_at}
 use Rattle.kept_answers.proofs.Matchings.{all_there, checked_as, verdict_named}
 use Rattle.kept_answers.proofs.Shown.{nodes_long, edges_long, edges_few}
@@ -26,9 +30,11 @@ returns-clause-right c =
     let missing = sym (c.in_default-first_outside-2.ensures
     ∙ ap (λ xs. first_outside xs c.in_ok-kept.kept) (c.numbers.ensures ∙ c.requires.shown.places)
     ∙ ap (λ xs. first_outside (node_numbers g) xs) kept) in
-    all_there g k _ edges nodes missing (record {
-      nodes = c.in_ok-from_slice-2.ensures ∙ c.numbers-3.ensures ∙ c.requires.shown.places;
-      edges = c.in_ok-from_slice-3.ensures ∙ c.numbers-4.ensures ∙ shown;
+    let reply : Named = record { nodes = c.args.shown.now.places; edges = visible; answer = Verdict c.in_ok-verdict.verdict } in
+    as_given (IsMatchChecked g k) c.about_net.result reply c.about_net.ensures
+    (all_there g k reply edges nodes missing (record {
+      nodes = c.requires.shown.places;
+      edges = shown;
       verdict = c.in_ok-verdict.verdict;
       answer = refl;
       right = checked_as g k c.args.shown.now c.requires.shown c.in_ok-places_among.field-0 c.in_ok-entries_at.field-0
@@ -40,15 +46,16 @@ returns-clause-right c =
           ∙ ap (λ xs. places_in xs c.numbers-2.result.now) kept
           ∙ ap (places_in k.nodes) (c.numbers-2.ensures ∙ c.requires.shown.places)))
           c.in_ok-verdict.ensures;
-    })
+    }))
 
 pub returns-clause-named : goal.returns-clause-named
 returns-clause-named c =
     let g = c.args.g.now in
     let shown = c.args.shown.now in
-    verdict_named shown.net c.requires.shown.valid _ c.in_ok-from_slice-2.field-0 c.in_ok-from_slice-3.field-0
-    (ap length (c.in_ok-from_slice-2.ensures ∙ c.numbers-3.ensures ∙ c.requires.shown.places)
-    ∙ nodes_long g shown c.requires.shown)
-    (ap length (c.in_ok-from_slice-3.ensures ∙ c.numbers-4.ensures ∙ c.in_ok-visible.ensures)
-    ∙ edges_long g shown c.requires.shown)
-    c.in_ok-verdict.verdict c.in_ok-verdict.ensures
+    let visible = c.in_ok-visible.visible in
+    as_given (λ named. IsAnswerNamed named.nodes named.edges named.answer) c.about_net.result
+    (record { nodes = shown.places; edges = visible; answer = Verdict c.in_ok-verdict.verdict }) c.about_net.ensures
+    (verdict_named shown.net c.requires.shown.valid _ shown.places visible
+    (ap length c.requires.shown.places ∙ nodes_long g shown c.requires.shown)
+    (ap length c.in_ok-visible.ensures ∙ edges_long g shown c.requires.shown)
+    c.in_ok-verdict.verdict c.in_ok-verdict.ensures)

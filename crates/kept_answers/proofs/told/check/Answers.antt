@@ -4,7 +4,11 @@ use Rattle.graph_defs.specs.Shortest.{listed}
 use Rattle.hide_restore.specs.Net.{place_of, node_numbers, edge_numbers}
 use Rattle.kept_answers.specs.Checked.{first_outside}
 use Rattle.kept_answers.specs.Renamed.{sp_by}
-use Rattle.kept_answers.specs.Told.{first_gone}
+use Rattle.kept_answers.specs.Told.{first_gone, IsAnswerChecked}
+use Rattle.reply_text.specs.declared.reply.Answer.TheVariants.{Verdict}
+use Rattle.reply_text.specs.declared.reply.Named.{Named}
+use Rattle.reply_text.specs.Text.{IsAnswerNamed}
+use Rattle.kept_answers.proofs.Listed.{as_given}
 use Rattle.kept_answers.proofs.Paths.{all_told, checked_as, source_within, verdict_named}
 use Rattle.kept_answers.proofs.Shown.{nodes_long, edges_long, nodes_few, edges_few}
 use Rattle.kept_answers.proofs.told.check.Goals as goal
@@ -41,9 +45,11 @@ returns-clause-right c =
     let gone = sym (c.in_default.ensures ∙ ap (λ vs. first_gone vs visible source told) nodes
     ∙ ap (λ es. first_gone (node_numbers g) es source told) edges) in
     let missing = sym (c.in_ok-node.ensures ∙ ap (λ vs. first_outside vs (listed told)) nodes) ∙ c.in_default-2.is in
-    all_told g c.args.cost.now source told _ gone missing (record {
-      nodes = c.in_ok-from_slice.ensures ∙ c.numbers.ensures ∙ nodes;
-      edges = c.in_ok-from_slice-2.ensures ∙ c.numbers-2.ensures ∙ edges;
+    let reply : Named = record { nodes = shown.places; edges = visible; answer = Verdict c.in_ok-verdict.verdict } in
+    as_given (IsAnswerChecked g c.args.cost.now source told) c.about_net.result reply c.about_net.ensures
+    (all_told g c.args.cost.now source told reply gone missing (record {
+      nodes = nodes;
+      edges = edges;
       verdict = c.in_ok-verdict.verdict;
       answer = refl;
       right = checked_as g c.args.cost.now source told shown c.requires.shown c.place_among-source.result c.in_ok-as_now.as_now
@@ -52,20 +58,19 @@ returns-clause-right c =
           (c.in_ok-as_now.ensures ∙ ap (λ vs. sp_by (λ v. place_of v vs) (λ e. place_of e visible) told) nodes
           ∙ ap (λ es. sp_by (λ v. place_of v (node_numbers g)) (λ e. place_of e es) told) edges)
           c.in_ok-verdict.ensures;
-    })
+    }))
 
 pub returns-clause-named : goal.returns-clause-named
 returns-clause-named c =
     let g = c.args.g.now in
     let shown = c.args.shown.now in
-    let nodes = c.in_ok-from_slice.ensures ∙ c.numbers.ensures in
-    let within = source_within shown.places c.in_ok-visible.visible c.args.source c.args.told.now (sym c.in_default.ensures) in
+    let visible = c.in_ok-visible.visible in
+    let within = source_within shown.places visible c.args.source c.args.told.now (sym c.in_default.ensures) in
     let is = c.place_among-source.ensures in
-    let long = ap length nodes in
-    verdict_named shown.net c.place_among-source.result c.args.cost.now c.in_ok-as_now.as_now
-    c.in_ok-from_slice.field-0 c.in_ok-from_slice-2.field-0
-    (omega (arith, within, is, long))
-    (ap length (nodes ∙ c.requires.shown.places) ∙ nodes_long g shown c.requires.shown)
-    (ap length (c.in_ok-from_slice-2.ensures ∙ c.numbers-2.ensures ∙ c.in_ok-visible.ensures)
-    ∙ edges_long g shown c.requires.shown)
-    c.in_ok-verdict.verdict c.in_ok-verdict.ensures
+    as_given (λ named. IsAnswerNamed named.nodes named.edges named.answer) c.about_net.result
+    (record { nodes = shown.places; edges = visible; answer = Verdict c.in_ok-verdict.verdict }) c.about_net.ensures
+    (verdict_named shown.net c.place_among-source.result c.args.cost.now c.in_ok-as_now.as_now shown.places visible
+    (omega (arith, within, is))
+    (ap length c.requires.shown.places ∙ nodes_long g shown c.requires.shown)
+    (ap length c.in_ok-visible.ensures ∙ edges_long g shown c.requires.shown)
+    c.in_ok-verdict.verdict c.in_ok-verdict.ensures)

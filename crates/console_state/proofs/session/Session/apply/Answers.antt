@@ -42,3 +42,9 @@ change_values-requires-clause-live g c = live-cleared c.args.self.now c.word.res
     c.forms.result.now c.args-2.result.now (Value c.in-Value.word) c.args.command.now
     c.args-in-Value.result.now c.in_default.ensures.first c.forms.ensures c.args-2.ensures
     c.in-Value.ensures c.args-in-Value.ensures c.requires
+
+pub query-requires-clause-objects : goal.query-requires-clause-objects
+query-requires-clause-objects g c = objects-cleared c.args.self.now c.word.result
+    c.forms.result.now c.args-2.result.now (Query c.in-Query.word) c.args.command.now
+    c.args-in-Query.result.now c.in_default.ensures.first c.forms.ensures c.args-2.ensures
+    c.in-Query.ensures c.args-in-Query.ensures

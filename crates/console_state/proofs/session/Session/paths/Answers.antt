@@ -1,13 +1,12 @@
-use Rattle.std.proofs.Common.{◌<◌, List, [], ◌∷◌, get_or, ap, refl, subst, ◌∙◌}
+use Rattle.std.proofs.Common.{◌<◌, [], ◌∷◌, ap, refl, subst, ◌∙◌}
 use Rattle.std.specs.Prelude.{slice_index}
-use Rattle.graph_state.specs.declared.item.EdgeItem.{EdgeItem}
 use Rattle.script_text.specs.declared.argument.Arg.TheVariants as args
 use Rattle.reply_text.specs.declared.reply.Answer.TheVariants as answers
 use Rattle.reply_text.specs.declared.reply.Reply.TheVariants.{Refused}
 use Rattle.reply_text.specs.declared.refusal.Refusal.TheVariants as refusals
 use Rattle.console_state.specs.Paths.{word_of, MayRefuse}
 use Rattle.console_state.specs.Views.{edge_names}
-use Rattle.console_state.proofs.PathAnswers.{path-allowed, path-beyond, path-named, path-known, path-negative, path-told, costs-long, arc-number}
+use Rattle.console_state.proofs.PathAnswers.{path-allowed, path-beyond, path-named, path-known, path-negative, path-told, costs-long}
 use Rattle.console_state.proofs.Reaches.{listed_place, node_below}
 use Rattle.console_state.proofs.Telling.{breaks, told-named, told-replies}
 use Rattle.console_state.proofs.session.Session.paths.Goals as goal
@@ -43,6 +42,14 @@ returns-in-Ok-answer-clause-named c =
     c.in-Ok-answer.ensures.right.is.range)
     c.told.result c.told.ensures
 
+pub negative-requires-clause-arc : goal.negative-requires-clause-arc
+negative-requires-clause-arc c =
+    let cost = c.as_slice.result.now in
+    let refused = subst (MayRefuse c.args.search cost) c.in-Err-Negative.field-0-is c.in-Err-Negative.ensures.refusal in
+    subst (λ k. c.in-Err-Negative.arc < k)
+    (costs-long c.args.self.now c.args.shown.now c.requires.shown c.args.name.now cost (c.as_slice.ensures ∙ c.in-Ok.ensures.1))
+    (path-known cost c.args.search c.in-Err-Negative.arc refused)
+
 pub returns-in-Err-Negative-clause-replies : goal.returns-in-Err-Negative-clause-replies
 returns-in-Err-Negative-clause-replies c =
     let s = c.args.self.now in
@@ -51,13 +58,10 @@ returns-in-Err-Negative-clause-replies c =
     let arc = c.in-Err-Negative.arc in
     let same = c.as_slice.ensures ∙ c.in-Ok.ensures.1 in
     let refused = subst (MayRefuse c.args.search cost) c.in-Err-Negative.field-0-is c.in-Err-Negative.ensures.refusal in
-    let within = subst (λ k. arc < k) (costs-long s c.args.shown.now c.requires.shown name cost same) (path-known cost c.args.search arc refused) in
     breaks (word_of c.args.search) (args.Node c.args.source ∷ args.Name name ∷ []) s
-    (refusals.Negative (slice_index (edge_names s) arc)) (Refused _)
+    (refusals.Negative (slice_index (edge_names s) arc)) (Refused c.negative.result)
     (path-negative s name cost c.args.source same c.in-Ok.ensures.0 c.args.search arc refused)
-    (ap (λ k. Refused (refusals.Negative k))
-    (ap (λ (es : List EdgeItem). (get_or es arc _).0.serial) c.as_slice-in-Err-Negative.ensures
-    ∙ arc-number s c.args.shown.now c.requires.shown arc within _))
+    (ap Refused c.negative.ensures)
 
 pub returns-in-Err-Bound-clause-replies : goal.returns-in-Err-Bound-clause-replies
 returns-in-Err-Bound-clause-replies c =
