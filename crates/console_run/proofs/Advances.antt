@@ -29,7 +29,7 @@ of_line s f kept line answer s' f' e step =
     subst (λ m. Meets m s f answer s' f') (ap line_of e ∙ line_of-kept line) step
 
 -- the run goes on behind one more answer
-goes-on : (strict : Bool) (answers : List (Option Reply)) (answer : Option Reply)
+pub goes-on : (strict : Bool) (answers : List (Option Reply)) (answer : Option Reply)
     → GoesOn strict answers → end_of strict answer ≡ None → GoesOn strict (answers ++ answer ∷ [])
 goes-on strict answers answer going next =
     let ends : Option Reply → Type 0 = λ a. end_of strict a ≡ None in

@@ -7,3 +7,7 @@ pub mod Outcomes
 pub mod Pumps
 pub mod Lacking
 pub mod Stopped
+pub mod WorkLines
+pub mod FirstLine
+pub mod Shows
+pub mod Performs

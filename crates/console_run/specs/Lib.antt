@@ -5,3 +5,8 @@ pub mod Strict
 pub mod Answers
 pub mod Progress
 pub mod Ends
+pub mod Workload
+pub mod Generated
+pub mod Shown
+pub mod WorkloadEnds
+pub mod Performing

@@ -1,8 +1,9 @@
 //! A session with the buffers of its script and its replies.
-ghost use Rattle.std.specs.Prelude.{◌≡◌, ℕ, Some, ◌+◌, ◌≤◌, ◌<◌, List, [], ◌++◌, length, drop, vec_len, vec_capacity, IfSome, IfNone, IfOk, IfErr, OnOk};
+ghost use Rattle.std.specs.Prelude.{◌≡◌, ℕ, Some, ◌+◌, ◌≤◌, ◌<◌, ◌==◌, ◌||◌, if◌then◌else◌, is_some, List, [], ◌++◌, length, drop, get_or, vec_len, vec_capacity, IfSome, IfNone, IfOk, IfErr, OnOk, OnErr};
+ghost use Rattle.std.specs.Io.KnownBytes.{Appends};
 ghost use Rattle.std.specs.Bool.{MatchBool, OnFalse};
-ghost use Rattle.leda_edge.specs.Causes.{Rose};
-ghost use Rattle.leda_edge.specs.Parts.{StaysTold};
+ghost use Rattle.leda_edge.specs.Causes.{Rose, HasCause};
+ghost use Rattle.leda_edge.specs.Parts.{StaysTold, TookPart};
 ghost use Rattle.leda_edge.specs.Stored.{Stored, stored, StaysStored};
 ghost use Rattle.script_text.specs.Line.{kept_of};
 ghost use Rattle.script_text.specs.Table.{IsWhole};
@@ -15,9 +16,14 @@ ghost use Rattle.console_run.specs.Session.{refusal_of};
 ghost use Rattle.console_run.specs.Answers.{Known, Answered};
 ghost use Rattle.console_run.specs.Strict.{end_of, IsRefusal};
 ghost use Rattle.console_run.specs.Lines.{lines_of, IsPlain};
+ghost use Rattle.console_run.specs.declared.workload.TheConstants.{LINE_COUNT};
+ghost use Rattle.console_run.specs.Generated.{IsDrawn, line_at};
+ghost use Rattle.console_run.specs.Shown.{first_line, summary};
+ghost use Rattle.console_run.specs.Performing.{ShowedLine, CutLine};
 ghost use Rattle.console_run.specs.Progress.{EndsLine, RanCommand, RanLine, WroteReply, CutReply, Progress, Broken};
 
 use crate::top::Status;
+use crate::workload::{Generator, LINE_COUNT, append, append_number};
 use console_state::Session;
 use leda_edge::{Failed, Sink, Store, put_all};
 use memchr::memchr;
@@ -147,6 +153,108 @@ impl Console {
             Some(status) => Err(status),
             None => Ok(()),
         }
+    }
+
+    /// Runs the line in the buffer, and leaves the buffer empty for the next line. The first line
+    /// of its reply is written where the line is a query, or where the run ends behind it.
+    ///
+    /// Whether the reply is a refusal.
+    ///
+    /// # Errors
+    /// The status of a run that ends at this reply.
+    fn show_line<F: Store, K: Sink>(
+        &mut self,
+        strict: bool,
+        is_query: bool,
+        files: &mut F,
+        out: &mut K,
+    ) -> Result<bool, Status>
+        ensures empty { self.new.line.items ≡ [] }
+        ensures ok { IfOk result (λ refused. ShowedLine strict is_query self.old.line.items refused
+            self.old.session (stored (F.files files.old) (F.faults files.old)) (K.held out.old)
+            self.new.session (stored (F.files files.new) (F.faults files.new)) (K.held out.new)) }
+        ensures err { IfErr result (λ status. CutLine strict is_query status self.old.line.items
+            self.old.session (stored (F.files files.old) (F.faults files.old)) (K.held out.old)
+            self.new.session (stored (F.files files.new) (F.faults files.new)) (K.held out.new)) }
+        ensures told { StaysTold (K.held out.old) (K.held out.new) }
+        ensures later { K.faults out.old ≤ K.faults out.new }
+        ensures cause { IfErr result (λ status. status ≡ Status.WriteFault
+            → Rose (K.faults out.old) (K.faults out.new)) }
+        ensures store { StaysStored (stored (F.files files.old) (F.faults files.old))
+            (stored (F.files files.new) (F.faults files.new)) }
+    {
+        let ended = self.run_line(strict, files);
+        self.line.clear();
+        let shown = shown_of(is_query, ended, self.reply.as_slice());
+        if let Err(Failed) = put_all(out, shown) {
+            return Err(Status::WriteFault);
+        }
+        match ended {
+            Some(status) => Err(status),
+            None => Ok(is_refusal(self.reply.as_slice())),
+        }
+    }
+
+    /// Runs the line of a workload with the number `at`, from 0. The first line of its reply is
+    /// written where it is a query, or where the run ends behind it.
+    ///
+    /// Whether the reply is a refusal.
+    ///
+    /// # Errors
+    /// The status of a run that ends at this reply.
+    pub(crate) fn work_line<F: Store, K: Sink>(
+        &mut self,
+        strict: bool,
+        at: u32,
+        generator: &mut Generator,
+        files: &mut F,
+        out: &mut K,
+    ) -> Result<bool, Status>
+        requires at { at < LINE_COUNT }
+        requires empty { self.old.line.items ≡ [] }
+        ensures empty { self.new.line.items ≡ [] }
+        ensures drawn { (seed : ℕ) → IsDrawn seed at generator.old.number
+            → IsDrawn seed (at + 1) generator.new.number }
+        ensures ok { (seed : ℕ) → IsDrawn seed at generator.old.number
+            → IfOk result (λ refused. ShowedLine strict
+            (line_at seed at).is_query (line_at seed at).text refused
+            self.old.session (stored (F.files files.old) (F.faults files.old)) (K.held out.old)
+            self.new.session (stored (F.files files.new) (F.faults files.new)) (K.held out.new)) }
+        ensures err { (seed : ℕ) → IsDrawn seed at generator.old.number
+            → IfErr result (λ status. CutLine strict
+            (line_at seed at).is_query status (line_at seed at).text
+            self.old.session (stored (F.files files.old) (F.faults files.old)) (K.held out.old)
+            self.new.session (stored (F.files files.new) (F.faults files.new)) (K.held out.new)) }
+        ensures told { StaysTold (K.held out.old) (K.held out.new) }
+        ensures later { K.faults out.old ≤ K.faults out.new }
+        ensures cause { IfErr result (λ status. status ≡ Status.WriteFault
+            → Rose (K.faults out.old) (K.faults out.new)) }
+        ensures store { StaysStored (stored (F.files files.old) (F.faults files.old))
+            (stored (F.files files.new) (F.faults files.new)) }
+    {
+        let is_query = generator.put_line(at, &mut self.line);
+        self.show_line(strict, is_query, files, out)
+    }
+
+    /// Writes the last line of a workload.
+    ///
+    /// # Errors
+    /// `Failed` where it isn't written whole.
+    pub(crate) fn write_summary<K: Sink>(&mut self, refused: u32, out: &mut K) -> Result<(), Failed>
+        ensures whole { OnOk result
+            (Appends (K.held out.old) (K.held out.new) (summary LINE_COUNT refused)) }
+        ensures part { OnErr result
+            (TookPart (K.held out.old) (K.held out.new) (summary LINE_COUNT refused)) }
+        ensures told { StaysTold (K.held out.old) (K.held out.new) }
+        ensures cause { HasCause (K.faults out.old) (K.faults out.new) result }
+    {
+        self.reply.clear();
+        append(&mut self.reply, b"= workload ");
+        append_number(&mut self.reply, LINE_COUNT);
+        append(&mut self.reply, b" ");
+        append_number(&mut self.reply, refused);
+        append(&mut self.reply, b"\n");
+        put_all(out, self.reply.as_slice())
     }
 
     /// Puts bytes behind the unfinished line, as many as tell what it means.
@@ -279,6 +387,35 @@ fn line_end(piece: &[u8], at: usize) -> Option<usize>
 {
     let count = memchr(b'\n', &piece[at..])?;
     Some(at + count)
+}
+
+/// What is shown of the text of a reply: its first line, where it is that to a query, or where the
+/// run ends behind it; else nothing.
+fn shown_of(is_query: bool, ended: Option<Status>, reply: &[u8]) -> &[u8]
+    ensures { result.now ≡ if is_query || is_some ended then first_line reply.now else [] }
+{
+    if is_query || ended.is_some() {
+        first_line(reply)
+    } else {
+        b""
+    }
+}
+
+/// The first line of a text, with the LF that ends it.
+fn first_line(text: &[u8]) -> &[u8]
+    ensures { result.now ≡ first_line text.now }
+{
+    match line_end(text, 0) {
+        Some(end) => &text[..end + 1],
+        None => text,
+    }
+}
+
+/// Whether the text of a reply is that of a refusal.
+fn is_refusal(reply: &[u8]) -> bool
+    ensures { result ≡ (get_or reply.now 0 0 == 33) }
+{
+    reply.first() == Some(&b'!')
 }
 
 /// What a line that is no command is refused by.

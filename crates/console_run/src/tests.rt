@@ -171,7 +171,11 @@ fn answers_each_command(rt: HostRuntime) -> Result<(), Fail> {
 }
 
 /// Runs a script by these words, and gives the status and the bytes written.
-fn run_by(rt: &HostRuntime, words: &[&str], script: &str) -> Result<(Status, MemSink), Fail>
+pub(crate) fn run_by(
+    rt: &HostRuntime,
+    words: &[&str],
+    script: &str,
+) -> Result<(Status, MemSink), Fail>
     requires { 0 < length words.now }
 {
     let mut source = SureSource::new(Vec::from_slice(rt.alloc(), script.as_bytes())?);
