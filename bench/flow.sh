@@ -1,8 +1,8 @@
 #!/usr/bin/env bash
 # Times the query `maxflow` of the built console beside LEMON's Preflow on a StaticDigraph and Boost's
-# boykov_kolmogorov_max_flow (Debian's liblemon-dev and libboost-graph-dev), in one run: the processor time of a script
-# with the query, less that of the script without its last line, the least of each of ROUNDS. The peers' graphs are made
-# before their time begins; it is that of solving, and LEMON's printing of a reply of the same kind is told beside it.
+# boykov_kolmogorov_max_flow (Debian's liblemon-dev and libboost-graph-dev), in one run, by processor time, the least of
+# each of ROUNDS: the query where the net is at hand, and the making of the net. The peers' graphs are made before their
+# time begins; it is that of solving, and LEMON's printing of a reply of the same kind is told beside it.
 # It fails where they find flows of different values. Build the console first, by `rt ci`.
 # usage: bench/flow.sh [ROUNDS]
 set -euo pipefail
@@ -16,13 +16,8 @@ if ! command -v c++ > /dev/null || ! [ -e /usr/include/lemon/preflow.h ] ||
 fi
 c++ -O2 -std=c++17 -o out/flow flow.cpp
 
-# The least processor time of the console on a script.
-best() {
-    for ((round = 0; round < rounds; round++)); do out/measure -c "$1" "$leda"; done | sort -n | head -1 | cut -d ' ' -f 1
-}
-
-echo "| Net | Nodes | Query | LEMON, solving | and printing | Boost, solving | By LEMON's solving | By the best and printing | Value |"
-echo "|---|---|---|---|---|---|---|---|---|"
+echo "| Net | Nodes | Net made | Query | LEMON, solving | and printing | Boost, solving | By LEMON's solving | By the best and printing | Value |"
+echo "|---|---|---|---|---|---|---|---|---|---|"
 for net in random:25000 random:50000 random:100000 layers:8000 layers:32000 levels:16000 levels:64000 bipartite:40000 \
     flood:14400; do
     family=${net%:*}
@@ -31,20 +26,20 @@ for net in random:25000 random:50000 random:100000 layers:8000 layers:32000 leve
     printf 'load out/flow.gw\nedge_array c labels\n' > out/flow.load
     { cat out/flow.load; echo "maxflow n1 n2 c"; } > out/flow.ask
     ours=$("$leda" < out/flow.ask | awk '/^= maxflow/ { print $3 }')
-    load=$(best out/flow.load)
-    ask=$(best out/flow.ask)
+    read -r query made <<< "$(parts out/flow.load 'maxflow n1 n2 c')"
     for ((round = 0; round < rounds; round++)); do
         out/flow solve "$family" "$n" 2>&1 > /dev/null
-    done | awk -v net="$family" -v n="$n" -v ours="$ours" -v load="$load" -v ask="$ask" '
+    done | awk -v net="$family" -v n="$n" -v ours="$ours" -v query="$query" -v made="$made" '
         NR == 1 || $1 < lemon { lemon = $1 }
         NR == 1 || $2 < boost { boost = $2 }
         NR == 1 || $3 < print_ { print_ = $3 }
         { theirs = $4 }
         END {
-            query = (ask - load) * 1000; lemon /= 1000; boost /= 1000; print_ /= 1000
+            lemon /= 1000; boost /= 1000; print_ /= 1000
             least = (lemon < boost ? lemon : boost) + print_
-            printf "| %s | %d | %.1f ms | %.1f ms | %.1f ms | %.1f ms | %.2f | %.2f | %s |\n", net, n, query, lemon,
-                lemon + print_, boost, query / lemon, query / least, ours == theirs ? ours ", all" : ours " and " theirs
+            printf "| %s | %d | %s ms | %s ms | %.1f ms | %.1f ms | %.1f ms | %.2f | %.2f | %s |\n", net, n, made, query,
+                lemon, lemon + print_, boost, query / lemon, query / least,
+                ours == theirs ? ours ", all" : ours " and " theirs
             exit ours != theirs
         }'
 done

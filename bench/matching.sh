@@ -1,7 +1,7 @@
 #!/usr/bin/env bash
-# Times the query `matching` of the built console beside LEMON's MaxMatching (Debian's liblemon-dev), in one run: the
-# processor time of loading a net and asking, less that of loading alone, the least of each of ROUNDS. LEMON's graph is
-# made before its time begins; its time is that of solving, and of solving and printing a reply of the same kind.
+# Times the query `matching` of the built console beside LEMON's MaxMatching (Debian's liblemon-dev), in one run, by
+# processor time, the least of each of ROUNDS: the query where the net is at hand, and the making of the net. LEMON's
+# graph is made before its time begins; its time is that of solving, and of solving and printing a reply of the same kind.
 # It fails where the two find matchings of different sizes. Build the console first, by `rt ci`.
 # usage: bench/matching.sh [ROUNDS]
 set -euo pipefail
@@ -14,13 +14,8 @@ if ! command -v c++ > /dev/null || ! [ -e /usr/include/lemon/matching.h ]; then
 fi
 c++ -O2 -std=c++17 -o out/matching matching.cpp
 
-# The least processor time of the console on a script.
-best() {
-    for ((round = 0; round < rounds; round++)); do out/measure -c "$1" "$leda"; done | sort -n | head -1 | cut -d ' ' -f 1
-}
-
-echo "| Net | Nodes | Query | LEMON, solving | and printing | Ratio | Edges |"
-echo "|---|---|---|---|---|---|---|"
+echo "| Net | Nodes | Net made | Query | LEMON, solving | and printing | Ratio | Edges |"
+echo "|---|---|---|---|---|---|---|---|"
 for net in random:25000 random:100000 cubic:25000 cubic:100000 triangles:100000 grid:100000 complete:890; do
     family=${net%:*}
     n=${net#*:}
@@ -28,17 +23,17 @@ for net in random:25000 random:100000 cubic:25000 cubic:100000 triangles:100000 
     echo 'load out/matching.gw' > out/matching.load
     printf 'load out/matching.gw\nmatching\n' > out/matching.ask
     ours=$("$leda" < out/matching.ask | awk '/^= matching/ { print $3 }')
-    load=$(best out/matching.load)
-    ask=$(best out/matching.ask)
+    read -r query made <<< "$(parts out/matching.load matching)"
     for ((round = 0; round < rounds; round++)); do
         out/matching solve "$family" "$n" 2>&1 > /dev/null
-    done | awk -v net="$family" -v n="$n" -v ours="$ours" -v load="$load" -v ask="$ask" '
+    done | awk -v net="$family" -v n="$n" -v ours="$ours" -v query="$query" -v made="$made" '
         NR == 1 || $1 < solve { solve = $1 }
         NR == 1 || $2 < print_ { print_ = $2 }
         { theirs = $3 }
         END {
-            query = (ask - load) * 1000; solve /= 1000; both = solve + print_ / 1000
-            printf "| %s | %d | %.1f ms | %.1f ms | %.1f ms | %.2f | %s |\n", net, n, query, solve, both, query / both,
+            solve /= 1000; both = solve + print_ / 1000
+            printf "| %s | %d | %s ms | %s ms | %.1f ms | %.1f ms | %.2f | %s |\n", net, n, made, query, solve, both,
+                query / both,
                 ours == theirs ? ours ", both" : ours " and " theirs
             exit ours != theirs
         }'

@@ -1,9 +1,9 @@
 #!/usr/bin/env bash
 # Times the queries `dijkstra` and `sp` of the built console beside LEMON's Dijkstra on a StaticDigraph and Boost's
-# bellman_ford_shortest_paths (Debian's liblemon-dev and libboost-graph-dev), in one run: the processor time of a script
-# with the query, less that of the script without its last line, the least of each of ROUNDS. The peers' graphs are made
-# before their time begins; it is that of solving, and of solving and printing a reply of the same kind. Of a negative
-# cycle Boost only says that there is one. A program is ended at LIMIT seconds, and that is printed.
+# bellman_ford_shortest_paths (Debian's liblemon-dev and libboost-graph-dev), in one run, by processor time, the least of
+# each of ROUNDS: the query where the net is at hand, and the making of the net. The peers' graphs are made before their
+# time begins; it is that of solving, and of solving and printing a reply of the same kind. Of a negative cycle Boost only
+# says that there is one. A peer is ended at LIMIT seconds, and that is printed.
 # It fails where the two differ in the nodes reached or in the sum of their distances. Build the console first, by `rt ci`.
 # usage: bench/shortest.sh [ROUNDS [LIMIT]]
 set -euo pipefail
@@ -19,19 +19,12 @@ fi
 c++ -O2 -std=c++17 -o out/shortest shortest.cpp
 timeout=$(command -v timeout)
 
-# The least processor time of the console on a script, or `-` where it was ended.
-best() {
-    for ((round = 0; round < rounds; round++)); do
-        out/measure -c "$1" "$timeout" "$limit" "$leda" || { echo -; return; }
-    done | sort -n | head -1 | cut -d ' ' -f 1
-}
-
 # What the console found, as the peer tells it.
 found() {
-    "$timeout" "$limit" "$leda" < out/shortest.ask | awk '
+    "$leda" < out/shortest.ask | awk '
         $2 == "finite" { reached++; sum += $4 }
         $2 == "-inf" { negative = 1 }
-        END { if (negative) print "negative"; else printf "%d:%.0f\n", reached, sum }' || echo -
+        END { if (negative) print "negative"; else printf "%d:%.0f\n", reached, sum }'
 }
 
 # The peer is asked once of a negative cycle, where it goes through as many rounds as there are nodes.
@@ -43,20 +36,18 @@ peer() {
     done
 }
 
-echo "| Query | Net | Nodes | Query's time | Peer, solving | and printing | By solving | By both |"
-echo "|---|---|---|---|---|---|---|---|"
+echo "| Query | Net | Nodes | Net made | Query's time | Peer, solving | and printing | By solving | By both |"
+echo "|---|---|---|---|---|---|---|---|---|"
 for net in dijkstra:random:25000 dijkstra:random:50000 dijkstra:random:100000 dijkstra:grid:100000 \
     sp:random:25000 sp:random:50000 sp:random:100000 sp:grid:100000 sp:acyclic:894 sp:negative:25000 sp:negative:50000; do
     IFS=: read -r query family n <<< "$net"
     out/shortest write "$query" "$family" "$n" out/shortest.gw
     printf 'load out/shortest.gw\nedge_array c labels\n' > out/shortest.load
     { cat out/shortest.load; echo "$query n1 c"; } > out/shortest.ask
-    ask=$(best out/shortest.ask)
-    load=$(best out/shortest.load)
-    ours=-
-    if [ "$ask" != - ]; then ours=$(found); fi
-    peer "$query" "$family" "$n" | awk -v query="$query" -v net="$family" -v n="$n" -v ours="$ours" -v load="$load" \
-        -v ask="$ask" -v limit="$limit" '
+    ours=$(found)
+    read -r time made <<< "$(parts out/shortest.load "$query n1 c")"
+    peer "$query" "$family" "$n" | awk -v query="$query" -v net="$family" -v n="$n" -v ours="$ours" -v time="$time" \
+        -v made="$made" -v limit="$limit" '
         function ms(x) { return sprintf("%.1f ms", x) }
         $1 == "-" { ended = 1 }
         NR == 1 || $1 < solve { solve = $1 }
@@ -64,10 +55,10 @@ for net in dijkstra:random:25000 dijkstra:random:50000 dijkstra:random:100000 di
         { theirs = $3 }
         END {
             over = "over " limit " s"; ratio = by = "-"
-            time = (ask - load) * 1000; solve /= 1000; both = solve + print_ / 1000
-            if (ask != "-" && !ended) { ratio = sprintf("%.2f", time / solve); by = sprintf("%.2f", time / both) }
-            printf "| `%s` | %s | %d | %s | %s | %s | %s | %s |\n", query, net, n, ask == "-" ? over : ms(time),
+            solve /= 1000; both = solve + print_ / 1000
+            if (!ended) { ratio = sprintf("%.2f", time / solve); by = sprintf("%.2f", time / both) }
+            printf "| `%s` | %s | %d | %s ms | %s ms | %s | %s | %s | %s |\n", query, net, n, made, time,
                 ended ? over : ms(solve), ended ? over : ms(both), ratio, by
-            if (ask != "-" && !ended && ours != theirs) { print "found: " ours " and " theirs; exit 1 }
+            if (!ended && ours != theirs) { print "found: " ours " and " theirs; exit 1 }
         }'
 done

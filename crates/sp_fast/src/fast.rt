@@ -6,20 +6,23 @@ use crate::labels::{End, Labels};
 use crate::lows::{Block, Lows};
 use crate::passes::Passes;
 use crate::rows::{NONE, at, is_set, put, set};
+use crate::scans::Scans;
 use crate::trees::Trees;
 use graph_defs::{Finite, Low, Net, SpAnswer};
 use leda_base::{NoMemory, Row};
 use std::alloc::Global;
 
-// How often the arcs may be looked at for a tree of last arcs to be corrected: where the whole net
-// is gone over, and within a component.
+// How often the arcs may be looked at: where labels are corrected as they fall, where they are
+// corrected with a tree of last arcs, and so within a component.
 #[derive(Clone, Copy)]
 pub(crate) struct Patience {
+    pub(crate) scans: u32,
     pub(crate) whole: u32,
     pub(crate) within: u32,
 }
 
 pub(crate) const PATIENCE: Patience = Patience {
+    scans: 3,
     whole: 3,
     within: 4,
 };
@@ -33,6 +36,17 @@ pub(crate) fn propose(
     patience: Patience,
 ) -> Result<SpAnswer, NoMemory> {
     let graph = Graph::whole(alloc, net, cost)?;
+    let mut labels = Labels::new(alloc, graph.count, s)?;
+    let mut scans = Scans::new(alloc, graph.count)?;
+    if let End::Settled = scans.correct(&graph, &mut labels, s, patience.scans) {
+        return answer_of(
+            alloc,
+            net.n,
+            &graph,
+            &labels,
+            Lows::new(alloc, graph.count)?,
+        );
+    }
     let mut search = Search::new(alloc, graph.count, s)?;
     let end = search
         .trees
@@ -120,17 +134,28 @@ impl Search {
     }
 
     fn answer(self, alloc: Global, n: u32, graph: &Graph) -> Result<SpAnswer, NoMemory> {
-        let finite = finite_of(alloc, graph, &self.labels, &self.lows)?;
-        let Search { lows, .. } = self;
-        let Lows { low, seeds, .. } = lows;
-        let unreached = unreached_of(alloc, n, finite.as_slice(), low.as_slice())?;
-        Ok(SpAnswer {
-            finite: Row::from_vec(finite),
-            seeds: Row::from_vec(seeds),
-            low: Row::from_vec(low),
-            unreached: Row::from_vec(unreached),
-        })
+        let Search { labels, lows, .. } = self;
+        answer_of(alloc, n, graph, &labels, lows)
     }
+}
+
+// What labels and low nodes tell.
+fn answer_of(
+    alloc: Global,
+    n: u32,
+    graph: &Graph,
+    labels: &Labels,
+    lows: Lows,
+) -> Result<SpAnswer, NoMemory> {
+    let finite = finite_of(alloc, graph, labels, &lows)?;
+    let Lows { low, seeds, .. } = lows;
+    let unreached = unreached_of(alloc, n, finite.as_slice(), low.as_slice())?;
+    Ok(SpAnswer {
+        finite: Row::from_vec(finite),
+        seeds: Row::from_vec(seeds),
+        low: Row::from_vec(low),
+        unreached: Row::from_vec(unreached),
+    })
 }
 
 // The nodes with labels that aren't low, each behind the one that its last arc comes from.

@@ -28,8 +28,13 @@ pub(crate) fn is_set(row: &[bool], place: u32) -> bool {
 
 #[inline(always)]
 pub(crate) fn set(row: &mut [bool], place: u32) {
+    put_bool(row, place, true);
+}
+
+#[inline(always)]
+pub(crate) fn put_bool(row: &mut [bool], place: u32, x: bool) {
     let place = place as usize;
     if place < row.len() {
-        row[place] = true;
+        row[place] = x;
     }
 }

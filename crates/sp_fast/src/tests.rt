@@ -101,17 +101,24 @@ fn agree(
 }
 
 // What is answered. It agrees with what the complete search answers, and with what the fast one
-// proposes, also where it goes through the components and where it corrects them in passes.
+// proposes, also where it begins with a tree, where it goes through the components, and where it
+// corrects them in passes.
 fn compare(rt: &impl Abort, alloc: Global, q: &Question) -> Result<SpAnswer, Fail> {
     let answer = told(rt, alloc, q).ok().expect(rt, "an answer");
     let complete = searched(rt, alloc, q).ok().expect(rt, "an answer");
     agree(rt, alloc, q.net.n, &answer, &complete)?;
-    for (whole, within) in [
-        (PATIENCE.whole, PATIENCE.within),
-        (0, PATIENCE.within),
-        (0, 0),
+    for (scans, whole, within) in [
+        (PATIENCE.scans, PATIENCE.whole, PATIENCE.within),
+        (0, PATIENCE.whole, PATIENCE.within),
+        (0, 0, PATIENCE.within),
+        (0, 0, 0),
     ] {
-        let proposal = proposed(rt, alloc, q, Patience { whole, within })?;
+        let patience = Patience {
+            scans,
+            whole,
+            within,
+        };
+        let proposal = proposed(rt, alloc, q, patience)?;
         agree(rt, alloc, q.net.n, &answer, &proposal)?;
     }
     Ok(answer)

@@ -2,7 +2,8 @@
 
 use crate::graph::Graph;
 use crate::labels::{End, Label, Labels};
-use crate::rows::{NONE, at, put};
+use crate::rows::NONE;
+use crate::waiting::Waiting;
 use leda_base::NoMemory;
 use std::alloc::Global;
 
@@ -31,23 +32,17 @@ const FREE: Branch = Branch {
 #[derive(Drop)]
 pub(crate) struct Trees {
     branches: Vec<Branch>,
-    // a ring with as many places as the component has
-    queue: Vec<u32>,
+    // as many places as the component has
+    waiting: Waiting,
     size: u32,
-    head: u32,
-    tail: u32,
-    waits: u32,
 }
 
 impl Trees {
     pub(crate) fn new(alloc: Global, count: u32) -> Result<Trees, NoMemory> {
         Ok(Trees {
             branches: vec![in alloc; FREE; count as usize]?,
-            queue: vec![in alloc; NONE; count as usize]?,
+            waiting: Waiting::new(alloc, count)?,
             size: 0,
-            head: 0,
-            tail: 0,
-            waits: 0,
         })
     }
 
@@ -70,17 +65,9 @@ impl Trees {
         }
     }
 
-    fn wait(&mut self, place: u32) {
-        put(self.queue.as_mut_slice(), self.tail, place);
-        self.tail = self.after(self.tail);
-        self.waits = self.waits.wrapping_add(1);
-    }
-
     // The first place that waits, which doesn't from now on.
     fn take(&mut self) -> u32 {
-        let place = at(self.queue.as_slice(), self.head);
-        self.head = self.after(self.head);
-        self.waits = self.waits.wrapping_sub(1);
+        let place = self.waiting.take();
         let branch = self.branch(place);
         self.set(
             place,
@@ -90,11 +77,6 @@ impl Trees {
             },
         );
         place
-    }
-
-    fn after(&self, turn: u32) -> u32 {
-        let next = turn.wrapping_add(1);
-        if next >= self.size { 0 } else { next }
     }
 
     // Corrects the labels of a block by its own arcs, as long as these are looked at this often at
@@ -112,7 +94,7 @@ impl Trees {
         let limit = arcs.saturating_add(self.size).saturating_mul(often);
         let mut looks = 0u32;
         for _ in 0..limit {
-            if self.waits == 0 {
+            if self.waiting.is_empty() {
                 return End::Settled;
             }
             let place = self.take();
@@ -133,9 +115,7 @@ impl Trees {
     // A tree for each place that has a label.
     fn start(&mut self, labels: &Labels, begin: u32, end: u32) {
         self.size = end.saturating_sub(begin);
-        self.head = 0;
-        self.tail = 0;
-        self.waits = 0;
+        self.waiting.clear(self.size);
         for place in begin..end {
             if !labels.is_free(place) {
                 self.set(
@@ -146,7 +126,7 @@ impl Trees {
                         ..FREE
                     },
                 );
-                self.wait(place);
+                self.waiting.push(place);
             }
         }
     }
@@ -264,7 +244,7 @@ impl Trees {
             },
         );
         if !branch.waits {
-            self.wait(place);
+            self.waiting.push(place);
         }
     }
 }
