@@ -7,7 +7,7 @@ ghost use Rattle.flow_net.specs.declared.refusals.FlowRefusal.TheVariants as ref
 ghost use Rattle.flow_net.specs.Refusals.{sum_of, AreLow, Refuses};
 ghost use Rattle.flow_preflow.specs.Steps.{most_steps};
 
-use crate::fast::propose;
+use crate::fast::{PATIENCE, propose};
 use flow_check::check_flow;
 use flow_net::{FlowRefusal, cause_against, max_flow};
 use graph_defs::{FlowAnswer, Net, Verdict};
@@ -53,7 +53,7 @@ pub fn preflow(
     }
     let most = relabel_limit(net.n);
     let mut left = most;
-    let proposed = propose(alloc, net, s, t, cap, &mut left);
+    let proposed = propose(alloc, net, s, t, cap, PATIENCE, &mut left);
     *steps += most.saturating_sub(left);
     let Ok(answer) = proposed else {
         return Err(FlowRefusal::NoMemory);

@@ -1,10 +1,7 @@
 //! The search by labels.
-ghost use Rattle.graph_defs.specs.Net.{IsValid};
-
 use crate::levels::Levels;
 use crate::residual::{NONE, Residual};
-use graph_defs::Net;
-use leda_base::NoMemory;
+use leda_base::{NoMemory, Row};
 use std::alloc::Global;
 
 // What enters a node and doesn't leave it, a bound on how many hops lead on to the sink, and the hop
@@ -43,20 +40,19 @@ pub(crate) struct Search {
 }
 
 impl Search {
+    /// No preflow but what flows in a residual network.
     pub(crate) fn new(
         alloc: Global,
-        net: &Net,
+        graph: Residual,
         source: u32,
         sink: u32,
-        cap: &[i64],
         left: u64,
-    ) -> Result<Search, NoMemory>
-        requires { IsValid net.now }
-    {
+    ) -> Result<Search, NoMemory> {
+        let n = graph.node_count();
         Ok(Search {
-            graph: Residual::new(alloc, net, cap)?,
-            nodes: vec![in alloc; NOWHERE; net.n as usize]?,
-            levels: Levels::new(alloc, net.n)?,
+            graph,
+            nodes: vec![in alloc; NOWHERE; n as usize]?,
+            levels: Levels::new(alloc, n)?,
             work: 0,
             left,
             source,
@@ -99,9 +95,16 @@ impl Search {
         self.set(node, Node { excess, ..state });
     }
 
-    /// Whether no hops lead from a node to the sink, where labels are found anew.
-    pub(crate) fn is_cut_off(&self, node: u32) -> bool {
-        self.node(node).label >= self.graph.node_count()
+    /// The nodes from which no hops lead to the sink, where labels are found anew.
+    pub(crate) fn cut(&self, alloc: Global) -> Result<Row<u32>, NoMemory> {
+        let far = self.graph.node_count();
+        let mut cut = Row::new(alloc);
+        for node in 0..far {
+            if self.node(node).label >= far {
+                cut.push(node)?;
+            }
+        }
+        Ok(cut)
     }
 
     /// Pushes as much to the sink as can come there.

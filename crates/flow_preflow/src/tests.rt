@@ -3,7 +3,7 @@ ghost use Rattle.std.specs.Prelude.{IfOk};
 ghost use Rattle.graph_defs.specs.Net.{IsValid};
 
 use super::*;
-use crate::fast::propose;
+use crate::fast::{PATIENCE, propose};
 use crate::join::{checked_or, is_right};
 use flow_net::{cause_against, max_flow};
 use graph_defs::{FlowAnswer, Net};
@@ -43,8 +43,8 @@ fn answer_of(
     Ok((told, steps))
 }
 
-// Fails where what the fast search proposes isn't right, or hasn't the value of the complete one.
-// The number of relabels.
+// What the fast search proposes, which may take so much for paths, and the number of its relabels.
+// Fails where that isn't right, or hasn't the value of the complete one.
 fn see(
     rt: &impl Abort,
     alloc: Global,
@@ -52,36 +52,37 @@ fn see(
     arcs: &[(u32, u32)],
     (s, t): (u32, u32),
     cap: &[i64],
-) -> Result<u64, Fail> {
+    patience: u64,
+) -> Result<(FlowAnswer, u64), Fail> {
     let net = net_of(rt, alloc, n, arcs)?;
     assert!(rt; s < net.n && t < net.n);
     assert!(rt; cap.len() == net.arcs.as_slice().len());
     let limit = 1_000_000;
     let mut left = limit;
-    let proposed = propose(alloc, &net, s, t, cap, &mut left)?;
+    let proposed = propose(alloc, &net, s, t, cap, patience, &mut left)?;
     assert!(rt;
         is_right(alloc, &net, s, t, cap, &proposed)?,
-        "{arcs:?} {cap:?}"
+        "{patience} {arcs:?} {cap:?}"
     );
     let Ok(wanted) = max_flow(alloc, &net, s, t, cap) else {
         return Err("no flow")?;
     };
-    assert_eq!(rt; proposed.value, wanted.value, "{arcs:?} {cap:?}");
-    Ok(limit.saturating_sub(left))
+    assert_eq!(rt; proposed.value, wanted.value, "{patience} {arcs:?} {cap:?}");
+    Ok((proposed, limit.saturating_sub(left)))
 }
 
 // From 0 by two arcs to 1, and on to 2; an arc back, and a loop at 1.
 #[test]
 fn arcs_into_the_source_and_loops_carry_nothing(rt: HostRuntime) -> Result<(), Fail> {
     let arcs = [(0, 1), (0, 1), (1, 0), (1, 1), (1, 2)];
-    let cap = [3, 2, 4, 7, 4];
+    let cap = [3, 2, 4, 7, 9];
     let (told, _) = answer_of(&rt, rt.alloc(), 3, arcs.as_slice(), (0, 2), cap.as_slice())?;
     let Ok(answer) = told else {
         return Err("refused")?;
     };
-    assert_eq!(rt; answer.value, 4);
-    assert_eq!(rt; answer.cut.as_slice(), [0, 1].as_slice());
-    assert_eq!(rt; answer.flow.as_slice(), [2, 2, 0, 0, 4].as_slice());
+    assert_eq!(rt; answer.value, 5);
+    assert_eq!(rt; answer.cut.as_slice(), [0].as_slice());
+    assert_eq!(rt; answer.flow.as_slice(), [3, 2, 0, 0, 5].as_slice());
     Ok(())
 }
 
@@ -104,11 +105,55 @@ fn refusals_come_in_their_order_and_count_nothing(rt: HostRuntime) -> Result<(),
 fn capacities_of_the_greatest_sum_are_taken(rt: HostRuntime) -> Result<(), Fail> {
     let arcs = [(0, 1), (0, 1), (1, 0)];
     let cap = [BOUND - 5, 3, 2];
-    see(&rt, rt.alloc(), 2, arcs.as_slice(), (0, 1), cap.as_slice())?;
+    for patience in [0, PATIENCE] {
+        see(
+            &rt,
+            rt.alloc(),
+            2,
+            arcs.as_slice(),
+            (0, 1),
+            cap.as_slice(),
+            patience,
+        )?;
+    }
     Ok(())
 }
 
-// A path, whose last arc takes little: nearly all has to go back by way of every node.
+// The shortest path goes by the arc from 1 to 2, along which nothing flows in the end.
+#[test]
+fn a_path_is_undone(rt: HostRuntime) -> Result<(), Fail> {
+    let arcs = [
+        (0, 1),
+        (1, 2),
+        (2, 5),
+        (0, 3),
+        (3, 4),
+        (4, 2),
+        (1, 6),
+        (6, 7),
+        (7, 5),
+    ];
+    let cap = [1; 9];
+    for patience in [0, PATIENCE] {
+        let (answer, _) = see(
+            &rt,
+            rt.alloc(),
+            8,
+            arcs.as_slice(),
+            (0, 5),
+            cap.as_slice(),
+            patience,
+        )?;
+        assert_eq!(rt; answer.value, 2);
+        assert_eq!(rt;
+            answer.flow.as_slice(),
+            [1, 0, 1, 1, 1, 1, 1, 1, 1].as_slice()
+        );
+    }
+    Ok(())
+}
+
+// A path, whose last arc takes little: nearly all that is pushed has to go back by way of every node.
 #[test]
 fn a_flood_flows_back(rt: HostRuntime) -> Result<(), Fail> {
     let mut arcs = Vec::new(rt.alloc());
@@ -119,22 +164,30 @@ fn a_flood_flows_back(rt: HostRuntime) -> Result<(), Fail> {
         arcs.push((node + 1, node))?;
         cap.push(500)?;
     }
-    let steps = see(
-        &rt,
-        rt.alloc(),
-        31,
-        arcs.as_slice(),
-        (0, 30),
-        cap.as_slice(),
-    )?;
-    assert!(rt; 0 < steps && steps <= 61 * 31, "{steps} relabels");
+    for patience in [0, PATIENCE] {
+        let (answer, steps) = see(
+            &rt,
+            rt.alloc(),
+            31,
+            arcs.as_slice(),
+            (0, 30),
+            cap.as_slice(),
+            patience,
+        )?;
+        assert_eq!(rt; answer.value, 1);
+        assert!(rt;
+            (steps > 0) == (patience == 0) && steps <= 61 * 31,
+            "{steps} relabels"
+        );
+    }
     Ok(())
 }
 
+// By pushes alone, by pushes behind paths that were broken off, and by paths alone.
 #[test]
 fn what_is_proposed_on_random_nets_is_right(rt: HostRuntime) -> Result<(), Fail> {
     let mut seed = 1u32;
-    let mut steps = 0u64;
+    let mut steps = [0u64; 3];
     for round in 0..300u32 {
         let n = 2 + round % 9;
         let mut arcs = Vec::new(rt.alloc());
@@ -145,10 +198,23 @@ fn what_is_proposed_on_random_nets_is_right(rt: HostRuntime) -> Result<(), Fail>
             cap.push(i64::from(seed / 64 % 10))?;
         }
         let ends = (seed % n, (seed % n + 1) % n);
-        let count = see(&rt, rt.alloc(), n, arcs.as_slice(), ends, cap.as_slice())?;
-        steps = steps.saturating_add(count);
+        for (way, patience) in [(0, 0), (1, 1), (2, u64::MAX)] {
+            let (_, count) = see(
+                &rt,
+                rt.alloc(),
+                n,
+                arcs.as_slice(),
+                ends,
+                cap.as_slice(),
+                patience,
+            )?;
+            steps[way] = steps[way].saturating_add(count);
+        }
     }
-    assert!(rt; steps > 0, "no relabel");
+    assert!(rt;
+        steps[0] > 0 && steps[1] > 0 && steps[2] == 0,
+        "{steps:?} relabels"
+    );
     Ok(())
 }
 
