@@ -17,13 +17,13 @@ best() {
 }
 
 # The milliseconds of a query where the net of the graph is at hand, and those of making the net: by the script that loads
-# the graph, alone, with the query behind it, and with the query five times more. The net is made for the first query on a
+# the graph, alone, with the query behind it, and with the query twenty times more. The net is made for the first query on a
 # graph and kept until the graph changes, as the peers' graphs are made before their time begins.
 # usage: parts SCRIPT QUERY
 parts() {
     { cat "$1"; echo "$2"; } > out/once
-    { cat out/once; for ((more = 0; more < 5; more++)); do echo "$2"; done; } > out/often
+    { cat out/once; for ((more = 0; more < 20; more++)); do echo "$2"; done; } > out/often
     echo "$(best "$1") $(best out/once) $(best out/often)" | awk '{
-        query = ($3 - $2) / 5; printf "%.1f %.1f\n", query * 1000, ($2 - $1 - query) * 1000
+        query = ($3 - $2) / 20; printf "%.1f %.1f\n", query * 1000, ($2 - $1 - query) * 1000
     }'
 }
