@@ -143,7 +143,7 @@ static long now() {
 }
 
 struct Found {
-    long solved = LONG_MAX, printed = LONG_MAX;
+    long solved = LONG_MAX, printed = LONG_MAX, made = 0;
     int64_t value = 0;
 };
 
@@ -155,6 +155,7 @@ static std::vector<Arc> sorted(const Net &net) {
 
 static Found by_lemon(const Net &net, int rounds) {
     using Graph = lemon::StaticDigraph;
+    long begin = now();
     auto arcs = sorted(net);
     std::vector<std::pair<int, int>> ends;
     for (auto &arc : arcs) ends.push_back({int(arc.from), int(arc.to)});
@@ -163,6 +164,7 @@ static Found by_lemon(const Net &net, int rounds) {
     Graph::ArcMap<int64_t> room(graph);
     for (size_t k = 0; k < arcs.size(); k++) room[graph.arc(int(k))] = arcs[k].room;
     Found found;
+    found.made = now() - begin;
     for (int round = 0; round < rounds; round++) {
         long start = now();
         lemon::Preflow<Graph, Graph::ArcMap<int64_t>> search(graph, room, graph.node(0), graph.node(1));
@@ -193,6 +195,7 @@ static Found by_boost(const Net &net, int rounds) {
     using Node = boost::property<boost::vertex_index_t, long, boost::property<boost::vertex_color_t, boost::default_color_type,
         boost::property<boost::vertex_distance_t, long, boost::property<boost::vertex_predecessor_t, Traits::edge_descriptor>>>>;
     using Graph = boost::adjacency_list<boost::vecS, boost::vecS, boost::directedS, Node, Edge>;
+    long begin = now();
     Graph graph(net.n);
     auto room = boost::get(boost::edge_capacity, graph);
     auto twin = boost::get(boost::edge_reverse, graph);
@@ -202,6 +205,7 @@ static Found by_boost(const Net &net, int rounds) {
         room[along] = arc.room, room[against] = 0, twin[along] = against, twin[against] = along;
     }
     Found found;
+    found.made = now() - begin;
     for (int round = 0; round < rounds; round++) {
         long start = now();
         found.value = boost::boykov_kolmogorov_max_flow(graph, 0, 1);
@@ -220,5 +224,6 @@ int main(int count, char **words) {
     }
     Found lemon = by_lemon(net, 2), boost = by_boost(net, 1);
     if (lemon.value != boost.value) return 1;
-    fprintf(stderr, "%ld %ld %ld %ld\n", lemon.solved, boost.solved, lemon.printed, long(lemon.value));
+    fprintf(stderr, "%ld %ld %ld %ld %ld %ld\n", lemon.solved, boost.solved, lemon.printed, lemon.made, boost.made,
+            long(lemon.value));
 }

@@ -16,8 +16,8 @@ if ! command -v c++ > /dev/null || ! [ -e /usr/include/lemon/preflow.h ] ||
 fi
 c++ -O2 -std=c++17 -o out/flow flow.cpp
 
-echo "| Net | Nodes | Net made | Query | LEMON, solving | and printing | Boost, solving | By LEMON's solving | By the best and printing | Value |"
-echo "|---|---|---|---|---|---|---|---|---|---|"
+echo "| Net | Nodes | Net made | LEMON's graph made | Boost's | Query | LEMON, solving | and printing | Boost, solving | By LEMON's solving | By the best and printing | Value |"
+echo "|---|---|---|---|---|---|---|---|---|---|---|---|"
 for net in random:25000 random:50000 random:100000 layers:8000 layers:32000 levels:16000 levels:64000 bipartite:40000 \
     flood:14400; do
     family=${net%:*}
@@ -33,12 +33,14 @@ for net in random:25000 random:50000 random:100000 layers:8000 layers:32000 leve
         NR == 1 || $1 < lemon { lemon = $1 }
         NR == 1 || $2 < boost { boost = $2 }
         NR == 1 || $3 < print_ { print_ = $3 }
-        { theirs = $4 }
+        NR == 1 || $4 < first { first = $4 }
+        NR == 1 || $5 < second { second = $5 }
+        { theirs = $6 }
         END {
             lemon /= 1000; boost /= 1000; print_ /= 1000
             least = (lemon < boost ? lemon : boost) + print_
-            printf "| %s | %d | %s ms | %s ms | %.1f ms | %.1f ms | %.1f ms | %.2f | %.2f | %s |\n", net, n, made, query,
-                lemon, lemon + print_, boost, query / lemon, query / least,
+            printf "| %s | %d | %s ms | %.1f ms | %.1f ms | %s ms | %.1f ms | %.1f ms | %.1f ms | %.2f | %.2f | %s |\n", net,
+                n, made, first / 1000, second / 1000, query, lemon, lemon + print_, boost, query / lemon, query / least,
                 ours == theirs ? ours ", all" : ours " and " theirs
             exit ours != theirs
         }'

@@ -1,6 +1,6 @@
 // Maximum matchings by LEMON's MaxMatching, the yardstick of bench/matching.sh.
 // `matching write FAMILY NODES FILE` writes a net as a GRAPH file. `matching solve FAMILY NODES` prints to the standard
-// error the least microseconds of three solves, those of printing, and the number of edges, and to the standard output
+// error the least microseconds of three solves, those of printing, those of making the graph, and the number of edges, and to the standard output
 // a reply like the console's.
 #include <algorithm>
 #include <cstdint>
@@ -109,12 +109,13 @@ static void print(const Graph &graph, const lemon::MaxMatching<Graph> &matching,
 }
 
 static void solve(uint32_t n, const Arcs &arcs) {
+    long begin = now();
     Graph graph;
     graph.reserveNode(n);
     graph.reserveEdge(arcs.size());
     for (uint32_t k = 0; k < n; k++) graph.addNode();
     for (auto [from, to] : arcs) graph.addEdge(graph.nodeFromId(from), graph.nodeFromId(to));
-    long solved = -1, printed = -1;
+    long made = now() - begin, solved = -1, printed = -1;
     int edges = 0;
     for (int round = 0; round < 3; round++) {
         long start = now();
@@ -127,7 +128,7 @@ static void solve(uint32_t n, const Arcs &arcs) {
         if (round == 0 || middle - start < solved) solved = middle - start;
         if (round == 0 || end - middle < printed) printed = end - middle;
     }
-    fprintf(stderr, "%ld %ld %d\n", solved, printed, edges);
+    fprintf(stderr, "%ld %ld %ld %d\n", solved, printed, made, edges);
 }
 
 int main(int count, char **words) {

@@ -1,7 +1,7 @@
 // Shortest paths by LEMON's Dijkstra and Boost's bellman_ford_shortest_paths, the yardsticks of bench/shortest.sh.
 // `shortest write QUERY FAMILY NODES FILE` writes a net as a GRAPH file whose labels are the costs, for the query
 // `dijkstra` or `sp`. `shortest solve QUERY FAMILY NODES` prints to the standard error the least microseconds of a solve,
-// those of printing, and what was found, and to the standard output a reply like the console's.
+// those of printing, those of making the graph, and what was found, and to the standard output a reply like the console's.
 #include <algorithm>
 #include <boost/graph/bellman_ford_shortest_paths.hpp>
 #include <boost/graph/compressed_sparse_row_graph.hpp>
@@ -110,7 +110,7 @@ static long now() {
 }
 
 struct Found {
-    long solved = LONG_MAX, printed = LONG_MAX;
+    long solved = LONG_MAX, printed = LONG_MAX, made = 0;
     long reached = 0, sum = 0;
     bool negative = false;
 };
@@ -128,6 +128,7 @@ static std::vector<Arc> sorted(const Net &net) {
 
 static Found by_lemon(const Net &net) {
     using Graph = lemon::StaticDigraph;
+    long begin = now();
     auto arcs = sorted(net);
     std::vector<std::pair<int, int>> ends;
     for (auto &arc : arcs) ends.push_back({int(arc.from), int(arc.to)});
@@ -136,6 +137,7 @@ static Found by_lemon(const Net &net) {
     Graph::ArcMap<int64_t> cost(graph);
     for (size_t k = 0; k < arcs.size(); k++) cost[graph.arc(int(k))] = arcs[k].cost;
     Found found;
+    found.made = now() - begin;
     for (int round = 0; round < 3; round++) {
         long start = now();
         lemon::Dijkstra<Graph, Graph::ArcMap<int64_t>> search(graph, cost);
@@ -162,12 +164,14 @@ static Found by_lemon(const Net &net) {
 static Found by_boost(const Net &net) {
     struct Cost { int64_t cost; };
     using Graph = boost::compressed_sparse_row_graph<boost::directedS, boost::no_property, Cost>;
+    long begin = now();
     auto arcs = sorted(net);
     std::vector<std::pair<size_t, size_t>> ends;
     std::vector<Cost> costs;
     for (auto &arc : arcs) ends.push_back({arc.from, arc.to}), costs.push_back({arc.cost});
     Graph graph(boost::edges_are_sorted, ends.begin(), ends.end(), costs.begin(), net.n);
     Found found;
+    found.made = now() - begin;
     for (int round = 0; round < 3 && !found.negative; round++) {
         long start = now();
         std::vector<int64_t> dist(net.n);
@@ -198,7 +202,7 @@ int main(int count, char **words) {
         return 0;
     }
     Found found = query == "sp" ? by_boost(net) : by_lemon(net);
-    fprintf(stderr, "%ld %ld ", found.solved, found.printed);
+    fprintf(stderr, "%ld %ld %ld ", found.solved, found.printed, found.made);
     if (found.negative) fprintf(stderr, "negative\n");
     else fprintf(stderr, "%ld:%ld\n", found.reached, found.sum);
 }

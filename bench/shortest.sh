@@ -32,12 +32,12 @@ peer() {
     local rounds=$rounds
     if [ "$2" = negative ]; then rounds=1; fi
     for ((round = 0; round < rounds; round++)); do
-        "$timeout" "$limit" out/shortest solve "$@" 2>&1 > /dev/null || { echo - - -; return; }
+        "$timeout" "$limit" out/shortest solve "$@" 2>&1 > /dev/null || { echo - - - -; return; }
     done
 }
 
-echo "| Query | Net | Nodes | Net made | Query's time | Peer, solving | and printing | By solving | By both |"
-echo "|---|---|---|---|---|---|---|---|---|"
+echo "| Query | Net | Nodes | Net made | Peer's graph made | Query's time | Peer, solving | and printing | By solving | By both |"
+echo "|---|---|---|---|---|---|---|---|---|---|"
 for net in dijkstra:random:25000 dijkstra:random:50000 dijkstra:random:100000 dijkstra:grid:100000 \
     sp:random:25000 sp:random:50000 sp:random:100000 sp:grid:100000 sp:acyclic:894 sp:negative:25000 sp:negative:50000; do
     IFS=: read -r query family n <<< "$net"
@@ -52,13 +52,14 @@ for net in dijkstra:random:25000 dijkstra:random:50000 dijkstra:random:100000 di
         $1 == "-" { ended = 1 }
         NR == 1 || $1 < solve { solve = $1 }
         NR == 1 || $2 < print_ { print_ = $2 }
-        { theirs = $3 }
+        NR == 1 || $3 < graph { graph = $3 }
+        { theirs = $4 }
         END {
             over = "over " limit " s"; ratio = by = "-"
             solve /= 1000; both = solve + print_ / 1000
             if (!ended) { ratio = sprintf("%.2f", time / solve); by = sprintf("%.2f", time / both) }
-            printf "| `%s` | %s | %d | %s ms | %s ms | %s | %s | %s | %s |\n", query, net, n, made, time,
-                ended ? over : ms(solve), ended ? over : ms(both), ratio, by
+            printf "| `%s` | %s | %d | %s ms | %s | %s ms | %s | %s | %s | %s |\n", query, net, n, made,
+                ended ? "-" : ms(graph / 1000), time, ended ? over : ms(solve), ended ? over : ms(both), ratio, by
             if (!ended && ours != theirs) { print "found: " ours " and " theirs; exit 1 }
         }'
 done
